@@ -1,0 +1,36 @@
+-- Document 01, "What the double covers": the power-up record, its values those of Table 15.
+-- Assumes nothing.
+use mathlib.Core.List.{_++_}
+use Rattle.keys.specs.Keys.{released}
+use Rattle.device.specs.Record.{eight}
+use Rattle.device.specs.declared.Controls.{Controls}
+use Rattle.device.specs.declared.Config.{Config}
+use Rattle.device.specs.declared.Planes.{Planes}
+use Rattle.device.specs.declared.Device.{Device}
+
+-- hexadecimal decode for all digits, intensity 1/16, all 8 digits scanned, outputs low, no key scanning and all ports
+-- inputs, no display test, all digits 16-segment or 7-segment
+abbrev pub controls : Controls
+controls = record { decode = 0xFF; global = 0; limit = 7; gpio = 0; ports = 0x1F; test = 0; types = 0 }
+
+-- shutdown, slow, no blinking, global intensity
+abbrev pub config : Config
+config = record { i = 0; e = 0; b = 0; s = 0 }
+
+-- digits 0 to 7 hold 0x20, 0a to 7a hold 0, in both planes
+abbrev pub planes : Planes
+planes = record { p0 = eight 0x20 ++ eight 0; p1 = eight 0x20 ++ eight 0 }
+
+abbrev pub powerUp : Device
+powerUp =
+    record {
+      controls = controls;
+      config = config;
+      intensities = eight 0;
+      keys = released;
+      planes = planes;
+      pins = 0;
+      blink = 0;
+      shift = 0;
+      fitted = 255;
+    }

@@ -1,0 +1,27 @@
+-- Document 01, "Bits on the wire": what a driver does with the word it takes.
+-- Assumes nothing.
+use Prim.Native.Nat.{ℕ, _+_, _*_, _/_}
+use Rattle.words.specs.Words.{wordOf}
+use Rattle.words.specs.declared.Register.{Register}
+use Rattle.words.specs.declared.Word.{Word}
+use Rattle.words.specs.declared.Word.the-variants.{Write, Read}
+use Rattle.device.specs.Record.{withShift}
+use Rattle.device.specs.Registers.{written, dataOf, afterRead}
+use Rattle.device.specs.declared.Device.{Device}
+
+-- D7 to D0 of a shift word replaced, D15 to D8 stay
+abbrev pub answerWord : ℕ → ℕ → ℕ
+answerWord shift v = shift / 256 * 256 + v
+
+-- after a read, D7 to D0 of the shift word become the register's data
+abbrev pub answered : Device → Register → Device
+answered d r = withShift (afterRead d r) (answerWord (d .shift) (dataOf d r))
+
+-- a driver whose shift word is the word obeys it; after a write the shift word stays as clocked
+abbrev pub obeyed : Device → Word → Device
+obeyed d (Write r v) = written d r v
+obeyed d (Read r) = answered d r
+
+-- a driver takes its word
+unfoldable pub taken : Device → ℕ → Device
+taken d w = obeyed (withShift d w) (wordOf w)

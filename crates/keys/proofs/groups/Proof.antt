@@ -1,0 +1,16 @@
+use Rattle.words.proofs.Tests.{tests}
+use Rattle.keys.proofs.groups.Statement.{statement}
+use Rattle.keys.proofs.groups.Tie as tie
+use Rattle.keys.proofs.groups.Reads as reads
+use Rattle.keys.proofs.groups.Lts as lts
+
+-- src/lib.rt:160:1
+returns : tie.Need-returns
+returns c = search tests
+
+-- src/lib.rt:160:1
+returns-2 : tie.Need-returns-2
+returns-2 c = search tests
+
+pub groups-spec : {M : Type 1} → statement M
+groups-spec = tie.close (tie.spec returns returns-2)

@@ -1,0 +1,70 @@
+-- The bits of numbers: of `and`, `or` and complement, at every place and over every width.
+-- Assumes nothing.
+use Prim.Native.Nat.{ℕ, zero, suc, _+_, _-_, _*_, _/_, _%_, _^_, _<_}
+use native.Mathlib.Nat.{mod-lt, zero-lt-suc, pow-succ', div-div-eq-div-mul, div-one}
+use native.Mathlib.Omega.{arith}
+use mathlib.Core.Bool.{Bool, true, false, not, _&&_, _||_}
+use mathlib.Core.Path.{_≡_, refl, sym, ap, ap₂, _∙_}
+use lib.Dec.{eqb}
+use lib.Bits.{bitAnd, bitOr, and-shr, and-mod, or-shr, or-mod}
+use borrow.Author.Tests.{eq-eqb, ne-eqb}
+use Rattle.words.specs.Choice.{bit, some}
+
+and-digit : (x y : ℕ) → x < 2 → y < 2 → eqb (bitAnd x y) 1 ≡ (eqb x 1 && eqb y 1)
+and-digit zero y p q = refl
+and-digit (suc zero) zero p q = refl
+and-digit (suc zero) (suc zero) p q = refl
+and-digit (suc zero) (suc (suc y)) p q = absurd (omega arith)
+and-digit (suc (suc x)) y p q = absurd (omega arith)
+
+or-digit : (x y : ℕ) → x < 2 → y < 2 → eqb (bitOr x y) 1 ≡ (eqb x 1 || eqb y 1)
+or-digit zero y p q = refl
+or-digit (suc zero) zero p q = refl
+or-digit (suc zero) (suc zero) p q = refl
+or-digit (suc zero) (suc (suc y)) p q = absurd (omega arith)
+or-digit (suc (suc x)) y p q = absurd (omega arith)
+
+pub and-bit : (k a b : ℕ) → bit k (bitAnd a b) ≡ (bit k a && bit k b)
+and-bit k a b =
+    ap (λ (x : ℕ). eqb x 1) (ap (λ (x : ℕ). x % 2) (and-shr a b k) ∙ and-mod (a / 2 ^ k) (b / 2 ^ k) 1)
+    ∙ and-digit (a / 2 ^ k % 2) (b / 2 ^ k % 2) (mod-lt (a / 2 ^ k) (zero-lt-suc 1)) (mod-lt (b / 2 ^ k) (zero-lt-suc 1))
+
+pub or-bit : (k a b : ℕ) → bit k (bitOr a b) ≡ (bit k a || bit k b)
+or-bit k a b =
+    ap (λ (x : ℕ). eqb x 1) (ap (λ (x : ℕ). x % 2) (or-shr a b k) ∙ or-mod (a / 2 ^ k) (b / 2 ^ k) 1)
+    ∙ or-digit (a / 2 ^ k % 2) (b / 2 ^ k % 2) (mod-lt (a / 2 ^ k) (zero-lt-suc 1)) (mod-lt (b / 2 ^ k) (zero-lt-suc 1))
+
+-- bit k + 1 of a number is bit k of its half
+pub next-bit : (k n : ℕ) → bit (suc k) n ≡ bit k (n / 2)
+next-bit k n = rw (pow-succ', div-div-eq-div-mul)
+
+-- digit 1 or not, by its value
+digit-not : (x y : ℕ) → x < 2 → x + y ≡ 1 → eqb y 1 ≡ not (eqb x 1)
+digit-not zero y p e = eq-eqb y 1 (omega arith)
+digit-not (suc zero) y p e = ne-eqb y 1 (λ q. omega arith)
+digit-not (suc (suc x)) y p e = absurd (omega arith)
+
+-- the complement within w bits flips each of them
+pub not-bit : (w k y : ℕ) → k < w → y < 2 ^ w → bit k (2 ^ w - 1 - y) ≡ not (bit k y)
+not-bit zero k y h q = absurd (omega arith)
+not-bit (suc w) zero y h q =
+    rw (div-one, div-one) (digit-not (y % 2) ((2 ^ suc w - 1 - y) % 2) (omega arith) (omega arith))
+not-bit (suc w) (suc k) y h q =
+    let half : (2 ^ suc w - 1 - y) / 2 ≡ 2 ^ w - 1 - y / 2 = omega arith in
+    rw (next-bit, next-bit, half) (not-bit w k (y / 2) (omega arith) (omega arith))
+
+or-true : (a : Bool) → true ≡ (a || true)
+or-true true = refl
+or-true false = refl
+
+-- a number is not 0 where bit 0 of it is 1 or its half is not 0
+nonzero-half : (x : ℕ) → not (eqb x 0) ≡ (bit 0 x || not (eqb (x / 2) 0))
+nonzero-half zero = refl
+nonzero-half (suc zero) = refl
+nonzero-half (suc (suc x)) =
+    rw (ne-eqb (suc (suc x)) 0 (λ e. omega arith), ne-eqb (suc (suc x) / 2) 0 (λ e. omega arith)) (or-true (bit 0 (suc (suc x))))
+
+-- a number of w bits is not 0 where some bit of it is 1
+pub some-bit : (w x : ℕ) → x < 2 ^ w → not (eqb x 0) ≡ some w (λ k. bit k x)
+some-bit zero x h = let e : x ≡ 0 = omega arith in rw e
+some-bit (suc w) x h = simp (next-bit, ← some-bit w (x / 2) (omega arith)) (nonzero-half x)

@@ -2,14 +2,14 @@
 -- Assumes nothing.
 use mathlib.Core.List.{_++_}
 use Rattle.keys.specs.Keys.{released}
-use Rattle.device.specs.Record.{eight}
-use Rattle.device.specs.declared.Controls.{Controls}
-use Rattle.device.specs.declared.Config.{Config}
-use Rattle.device.specs.declared.Planes.{Planes}
+use Rattle.digits.specs.Digits.{eight}
+use Rattle.digits.specs.declared.Planes.{Planes}
+use Rattle.controls.specs.declared.Controls.{Controls}
+use Rattle.controls.specs.declared.Config.{Config}
 use Rattle.device.specs.declared.Device.{Device}
 
--- hexadecimal decode for all digits, intensity 1/16, all 8 digits scanned, outputs low, no key scanning and all ports
--- inputs, no display test, all digits 16-segment or 7-segment
+-- hexadecimal decode for all digits, 1/16, all 8 digits scanned, outputs low, no key scanning with all ports inputs, normal
+-- operation, all digits 16-segment or 7-segment
 abbrev pub controls : Controls
 controls = record { decode = 0xFF; global = 0; limit = 7; gpio = 0; ports = 0x1F; test = 0; types = 0 }
 
@@ -21,6 +21,7 @@ config = record { i = 0; e = 0; b = 0; s = 0 }
 abbrev pub planes : Planes
 planes = record { p0 = eight 0x20 ++ eight 0; p1 = eight 0x20 ++ eight 0 }
 
+-- intensities 1/16; no key mask set, no key pressed or debounced; shift word, blink count and pins 0; fitted 255
 abbrev pub powerUp : Device
 powerUp =
     record {

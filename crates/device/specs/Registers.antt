@@ -1,35 +1,21 @@
 -- Document 01, "Registers": what a write stores, what a read gives and leaves.
 -- Assumes nothing.
-use Prim.Native.Nat.{ℕ, _+_, _*_, _/_, _%_}
+use Prim.Native.Nat.{ℕ}
 use lib.ListN.{getD, set}
-use Rattle.words.specs.Choice.{if, bit}
-use Rattle.words.specs.declared.ControlRegister.{ControlRegister}
-use Rattle.words.specs.declared.ControlRegister.the-variants.{DecodeMode, GlobalIntensity, ScanLimit, GpioData, PortConfiguration, DisplayTest, DigitType}
+use Rattle.words.specs.Choice.{if, bit, odd}
+use Rattle.words.specs.declared.Plane.{Plane}
 use Rattle.words.specs.declared.Register.{Register}
 use Rattle.words.specs.declared.Register.the-variants.{NoOp, Control, Configuration, KeyMask, KeyDebounced, KeyPressed, Intensity, Digit, BothPlanes, Unlisted}
 use Rattle.keys.specs.Keys.{maskWritten, debouncedRead, groupOf}
-use Rattle.device.specs.Record.{withDecode, withGlobal, withLimit, withGpio, withPorts, withTest, withTypes, withControls, withIntensities, withKeys, withPlanes, planeOf, digitWritten, bothWritten, cleared}
-use Rattle.device.specs.Blink.{phaseOf, phaseBit}
-use Rattle.device.specs.Ports.{portData}
-use Rattle.device.specs.declared.Controls.{Controls}
-use Rattle.device.specs.declared.Config.{Config}
+use Rattle.blink.specs.Blink.{phaseAt}
+use Rattle.ports.specs.Ports.{portData}
+use Rattle.digits.specs.Digits.{planeOf, digitWritten, bothWritten, cleared}
+use Rattle.controls.specs.Controls.{controlWritten, controlData}
+use Rattle.controls.specs.Config.{configOf, configData}
+use Rattle.device.specs.Record.{withControls, withIntensities, withKeys, withPlanes}
 use Rattle.device.specs.declared.Device.{Device}
 
--- global intensity keeps 4 bits, the scan limit 3, GPIO data 5, display test 1
-abbrev pub controlWritten : Controls → ControlRegister → ℕ → Controls
-controlWritten x DecodeMode v = withDecode x v
-controlWritten x GlobalIntensity v = withGlobal x (v % 16)
-controlWritten x ScanLimit v = withLimit x (v % 8)
-controlWritten x GpioData v = withGpio x (v % 32)
-controlWritten x PortConfiguration v = withPorts x v
-controlWritten x DisplayTest v = withTest x (v % 2)
-controlWritten x DigitType v = withTypes x v
-
--- configuration P I R T E B X S: I, E, B, S are stored
-abbrev pub configOf : ℕ → Config
-configOf v = record { i = v / 64 % 2; e = v / 8 % 2; b = v / 4 % 2; s = v % 2 }
-
--- R=1 sets all 32 plane bytes to 0 and T=1 the blink count to 0; both act once; P can't be written
+-- configuration written: I, E, B, S are stored; R=1 sets all 32 plane bytes to 0 and T=1 the blink count to 0, both once
 abbrev pub configured : Device → ℕ → Device
 configured d v =
     record {
@@ -44,7 +30,7 @@ configured d v =
       fitted = d .fitted;
     }
 
--- a register written; key reports, the no-op and unlisted registers aren't changed by a write
+-- a register written; the no-op, key reports and unlisted addresses take nothing
 abbrev pub written : Device → Register → ℕ → Device
 written d NoOp v = d
 written d (Control c) v = withControls d (controlWritten (d .controls) c v)
@@ -57,30 +43,19 @@ written d (Digit p i) v = withPlanes d (digitWritten (d .planes) p i v)
 written d (BothPlanes i) v = withPlanes d (bothWritten (d .planes) i v)
 written d Unlisted v = d
 
--- digit type can't be read
-abbrev pub controlData : Device → ControlRegister → ℕ
-controlData d DecodeMode = d .controls .decode
-controlData d GlobalIntensity = d .controls .global
-controlData d ScanLimit = d .controls .limit
-controlData d GpioData = portData d
-controlData d PortConfiguration = d .controls .ports
-controlData d DisplayTest = d .controls .test
-controlData d DigitType = 0
+-- the blink phase: slow where B=0
+abbrev pub phaseOf : Device → Plane
+phaseOf d = phaseAt (d .blink) (odd (d .config .b))
 
--- configuration reads P I 0 0 E B 0 S
-abbrev pub configData : Device → ℕ
-configData d =
-    phaseBit (phaseOf d) * 128
-    + d .config .i % 2 * 64
-    + d .config .e % 2 * 8
-    + d .config .b % 2 * 4
-    + d .config .s % 2
+-- GPIO data as read
+abbrev pub levelsOf : Device → ℕ
+levelsOf d = portData (d .controls .ports) (d .controls .gpio) (d .pins) (d .keys .interrupt)
 
--- a register's data; masks can't be read, 0x60+d reads as 0x00 (Table 6), unlisted addresses read 0
+-- a register's data; the no-op reads 0, masks can't be read, 0x60+d reads as 0x00 (Table 6), unlisted addresses read 0
 abbrev pub dataOf : Device → Register → ℕ
 dataOf d NoOp = 0
-dataOf d (Control c) = controlData d c
-dataOf d Configuration = configData d
+dataOf d (Control c) = controlData (d .controls) c (levelsOf d)
+dataOf d Configuration = configData (d .config) (phaseOf d)
 dataOf d (KeyMask g) = 0
 dataOf d (KeyDebounced g) = groupOf (d .keys) g .debounced
 dataOf d (KeyPressed g) = groupOf (d .keys) g .pressed
@@ -89,7 +64,7 @@ dataOf d (Digit p i) = getD (planeOf (d .planes) p) i 0
 dataOf d (BothPlanes i) = 0
 dataOf d Unlisted = 0
 
--- the record after a register's data was taken: reading a debounced register clears it, and the interrupt
+-- the record after a register's data was taken: reading a debounced register clears it, and clears the interrupt
 abbrev pub afterRead : Device → Register → Device
 afterRead d NoOp = d
 afterRead d (Control c) = d

@@ -3,19 +3,11 @@
 -- Assumes nothing.
 use mathlib.Core.Bool.{Bool, _&&_}
 use lib.Dec.{ltb}
-use Rattle.device.specs.declared.Controls.{Controls}
-use Rattle.device.specs.declared.Config.{Config}
+use Rattle.controls.specs.Controls.{soundControls}
+use Rattle.controls.specs.Config.{soundConfig}
 use Rattle.device.specs.declared.Device.{Device}
 
--- global intensity 4 bits, scan limit 3, GPIO data 5, display test 1
-abbrev pub soundControls : Controls → Bool
-soundControls x = ltb (x .global) 16 && ltb (x .limit) 8 && ltb (x .gpio) 32 && ltb (x .test) 2
-
--- one bit each
-abbrev pub soundConfig : Config → Bool
-soundConfig x = ltb (x .i) 2 && ltb (x .e) 2 && ltb (x .b) 2 && ltb (x .s) 2
-
--- five pin levels
+-- the interrupt is one bit, the pin levels are five
 abbrev pub soundOf : Device → Bool
 soundOf d =
     soundControls (d .controls)

@@ -1,174 +1,18 @@
-// One MAX6954 by value: its record, what its registers hold and do, and the steps that change it.
+// One MAX6954 by value: its record, what words write and read, and the steps that change it.
 ghost use mathlib.Core.Path.{_≡_};
-ghost use Prim.Native.Nat.{_*_, _%_, _≤_};
-ghost use lib.Dec.{eqb};
-ghost use lib.ListN.{getD, set};
-ghost use Rattle.device.specs.Record.{withControls, withConfig, withIntensities, withKeys, withPlanes, withPins, withBlink, withShift, withFitted, planeOf, digitWritten, bothWritten, cleared};
+ghost use Rattle.device.specs.Record.{withControls, withIntensities, withKeys, withPlanes, withPins, withShift, withFitted};
 ghost use Rattle.device.specs.PowerUp.{powerUp};
-ghost use Rattle.device.specs.Sound.{soundControls, soundConfig, soundOf};
-ghost use Rattle.device.specs.Blink.{clocked, phaseOf, phaseBit, shownPlane};
-ghost use Rattle.device.specs.Keys.{scanned};
-ghost use Rattle.device.specs.Ports.{freePorts, portData};
-ghost use Rattle.device.specs.Registers.{controlWritten, configOf, configured, written, controlData, configData, dataOf, afterRead};
+ghost use Rattle.device.specs.Sound.{soundOf};
+ghost use Rattle.device.specs.Registers.{configured, written, phaseOf, levelsOf, dataOf, afterRead};
 ghost use Rattle.device.specs.Words.{answerWord, answered, taken};
-ghost use Rattle.words.specs.Choice.{if};
+ghost use Rattle.device.specs.Steps.{scanned, clocked, shownPlane};
+use controls::Config;
+use controls::Controls;
+use digits::Planes;
 use keys::Keys;
-use words::ControlRegister;
 use words::Plane;
 use words::Register;
 use words::Word;
-
-// Registers of up to a byte.
-#[repr(C)]
-pub struct Controls {
-    // Decode mode: bit d for digits d and da.
-    pub decode: u8,
-    // Global intensity, 4 bits.
-    pub global: u8,
-    // Scan limit, 3 bits.
-    pub limit: u8,
-    // GPIO data, 5 bits.
-    pub gpio: u8,
-    // Port configuration: key groups in D7 to D5, directions in D4 to D0.
-    pub ports: u8,
-    // Display test, 1 bit.
-    pub test: u8,
-    // Digit type: bit d for cathode d.
-    pub types: u8,
-}
-
-impl Controls {
-    fn written(mut self, control: ControlRegister, v: u8) -> Controls
-        ensures { λ r. ⌜ r ≡ controlWritten self control v ⌝ }
-    {
-        match control {
-            ControlRegister::DecodeMode => {
-                self.decode = v;
-                self
-            }
-            ControlRegister::GlobalIntensity => {
-                self.global = v % 16;
-                self
-            }
-            ControlRegister::ScanLimit => {
-                self.limit = v % 8;
-                self
-            }
-            ControlRegister::GpioData => {
-                self.gpio = v % 32;
-                self
-            }
-            ControlRegister::PortConfiguration => {
-                self.ports = v;
-                self
-            }
-            ControlRegister::DisplayTest => {
-                self.test = v % 2;
-                self
-            }
-            ControlRegister::DigitType => {
-                self.types = v;
-                self
-            }
-        }
-    }
-
-    fn sound(self) -> bool
-        ensures { λ r. ⌜ r ≡ soundControls self ⌝ }
-    {
-        (self.global < 16) & (self.limit < 8) & (self.gpio < 32) & (self.test < 2)
-    }
-}
-
-// The stored bits of the configuration register, 0 or 1 each in a sound record.
-#[repr(C)]
-pub struct Config {
-    // 1: intensity digit by digit.
-    pub i: u8,
-    // 1: blinking.
-    pub e: u8,
-    // 1: fast blinking.
-    pub b: u8,
-    // 0: shutdown.
-    pub s: u8,
-}
-
-impl Config {
-    fn of(v: u8) -> Config
-        ensures { λ r. ⌜ r ≡ configOf v ⌝ }
-    {
-        Config {
-            i: v / 64 % 2,
-            e: v / 8 % 2,
-            b: v / 4 % 2,
-            s: v % 2,
-        }
-    }
-
-    fn sound(self) -> bool
-        ensures { λ r. ⌜ r ≡ soundConfig self ⌝ }
-    {
-        (self.i < 2) & (self.e < 2) & (self.b < 2) & (self.s < 2)
-    }
-}
-
-// Digits 0 to 7, then 0a to 7a, in both planes.
-#[repr(C)]
-pub struct Planes {
-    pub p0: [u8; 16],
-    pub p1: [u8; 16],
-}
-
-impl Planes {
-    pub const CLEARED: Planes = Planes {
-        p0: [0; 16],
-        p1: [0; 16],
-    };
-
-    // A digit's byte; 0 for a digit above 15.
-    pub fn digit(self, plane: Plane, digit: u8) -> u8
-        ensures { λ r. ⌜ r ≡ getD (planeOf self plane) digit 0 ⌝ }
-    {
-        let p0 = self.p0;
-        let p1 = self.p1;
-        match plane {
-            Plane::P0 => get16(p0, digit),
-            Plane::P1 => get16(p1, digit),
-        }
-    }
-
-    fn written(mut self, plane: Plane, digit: u8, v: u8) -> Planes
-        ensures { λ r. ⌜ r ≡ digitWritten self plane digit v ⌝ }
-    {
-        let p0 = self.p0;
-        let p1 = self.p1;
-        match plane {
-            Plane::P0 => {
-                let new = put16(p0, digit, v);
-                self.p0 = new;
-                self
-            }
-            Plane::P1 => {
-                let new = put16(p1, digit, v);
-                self.p1 = new;
-                self
-            }
-        }
-    }
-
-    fn both_written(self, digit: u8, v: u8) -> Planes
-        ensures { λ r. ⌜ r ≡ bothWritten self digit v ⌝ }
-    {
-        let first = self.written(Plane::P0, digit, v);
-        first.written(Plane::P1, digit, v)
-    }
-
-    fn cleared_if(self, clear: bool) -> Planes
-        ensures { λ r. ⌜ r ≡ if clear cleared self ⌝ }
-    {
-        if clear { Planes::CLEARED } else { self }
-    }
-}
 
 #[repr(C)]
 pub struct Device {
@@ -239,12 +83,10 @@ impl Device {
         self
     }
 
-    fn with_intensity(mut self, j: u8, v: u8) -> Device
-        ensures { λ r. ⌜ r ≡ withIntensities self (set (self .intensities) j v) ⌝ }
+    fn with_intensities(mut self, intensities: [u8; 8]) -> Device
+        ensures { λ r. ⌜ r ≡ withIntensities self intensities ⌝ }
     {
-        let old = self.intensities;
-        let new = put8(old, j, v);
-        self.intensities = new;
+        self.intensities = intensities;
         self
     }
 
@@ -269,14 +111,6 @@ impl Device {
         self
     }
 
-    // Pin levels given.
-    pub fn with_pins(mut self, levels: u32) -> Device
-        ensures { λ r. ⌜ r ≡ withPins self levels ⌝ }
-    {
-        self.pins = levels;
-        self
-    }
-
     // Configuration written: I, E, B and S are stored, R clears the planes, T the blink count.
     fn configured(mut self, v: u8) -> Device
         ensures { λ r. ⌜ r ≡ configured self v ⌝ }
@@ -284,7 +118,7 @@ impl Device {
         let config = Config::of(v);
         let old = self.planes;
         let planes = old.cleared_if(v / 32 % 2 == 1);
-        let blink = restarted(self.blink, v / 16 % 2 == 1);
+        let blink = blink::restarted(self.blink, v / 16 % 2 == 1);
         self.config = config;
         self.planes = planes;
         self.blink = blink;
@@ -296,6 +130,7 @@ impl Device {
         ensures { λ r. ⌜ r ≡ written self register v ⌝ }
     {
         let controls = self.controls;
+        let intensities = self.intensities;
         let keys = self.keys;
         let planes = self.planes;
         match register {
@@ -305,76 +140,51 @@ impl Device {
             Register::KeyMask(group) => self.with_keys(keys.masked(group, v)),
             Register::KeyDebounced(_) => self,
             Register::KeyPressed(_) => self,
-            Register::Intensity(j) => self.with_intensity(j, v),
+            Register::Intensity(j) => {
+                self.with_intensities(digits::intensity_written(intensities, j, v))
+            }
             Register::Digit(plane, digit) => self.with_planes(planes.written(plane, digit, v)),
             Register::BothPlanes(digit) => self.with_planes(planes.both_written(digit, v)),
             Register::Unlisted => self,
         }
     }
 
+    // The blink phase.
+    fn phase(self) -> Plane
+        ensures { λ r. ⌜ r ≡ phaseOf self ⌝ }
+    {
+        blink::phase(self.blink, self.config.b % 2 == 1)
+    }
+
     // The GPIO data register as read.
-    fn port_data(self) -> u8
-        ensures { λ r. ⌜ r ≡ portData self ⌝ }
+    fn levels(self) -> u8
+        ensures { λ r. ⌜ r ≡ levelsOf self ⌝ }
     {
-        let ports = self.controls.ports;
-        let groups = keys::groups(ports);
-        let inputs = ports % 32;
-        let levels = (self.pins % 32) as u8 & inputs | self.controls.gpio & (31 - inputs);
-        let free = free_ports(groups);
-        let irq = irq_level(groups, self.keys.interrupt);
-        free & levels | irq
-    }
-
-    // What a read of a control register gives; digit type can't be read.
-    fn control_data(self, control: ControlRegister) -> u8
-        ensures { λ r. ⌜ r ≡ controlData self control ⌝ }
-    {
-        match control {
-            ControlRegister::DecodeMode => self.controls.decode,
-            ControlRegister::GlobalIntensity => self.controls.global,
-            ControlRegister::ScanLimit => self.controls.limit,
-            ControlRegister::GpioData => self.port_data(),
-            ControlRegister::PortConfiguration => self.controls.ports,
-            ControlRegister::DisplayTest => self.controls.test,
-            ControlRegister::DigitType => 0,
-        }
-    }
-
-    // The configuration register as read: P I 0 0 E B 0 S.
-    fn config_data(self) -> u8
-        ensures { λ r. ⌜ r ≡ configData self ⌝ }
-    {
-        let p = phase_bit(self.phase());
-        p * 128
-            + self.config.i % 2 * 64
-            + self.config.e % 2 * 8
-            + self.config.b % 2 * 4
-            + self.config.s % 2
+        ports::read_data(
+            self.controls.ports,
+            self.controls.gpio,
+            self.pins,
+            self.keys.interrupt,
+        )
     }
 
     // A register's data, as a read takes it.
-    pub fn data(self, register: Register) -> u8
+    pub fn read_data(self, register: Register) -> u8
         ensures { λ r. ⌜ r ≡ dataOf self register ⌝ }
     {
+        let controls = self.controls;
+        let config = self.config;
+        let intensities = self.intensities;
         let keys = self.keys;
         let planes = self.planes;
         match register {
             Register::NoOp => 0,
-            Register::Control(control) => self.control_data(control),
-            Register::Configuration => self.config_data(),
+            Register::Control(control) => controls.read_data(control, self.levels()),
+            Register::Configuration => config.read_data(self.phase()),
             Register::KeyMask(_) => 0,
-            Register::KeyDebounced(group) => {
-                let g = keys.group(group);
-                g.debounced
-            }
-            Register::KeyPressed(group) => {
-                let g = keys.group(group);
-                g.pressed
-            }
-            Register::Intensity(j) => {
-                let intensities = self.intensities;
-                get8(intensities, j)
-            }
+            Register::KeyDebounced(group) => keys.debounced(group),
+            Register::KeyPressed(group) => keys.pressed(group),
+            Register::Intensity(j) => digits::intensity(intensities, j),
             Register::Digit(plane, digit) => planes.digit(plane, digit),
             Register::BothPlanes(_) => 0,
             Register::Unlisted => 0,
@@ -405,7 +215,7 @@ impl Device {
         ensures { λ r. ⌜ r ≡ answered self register ⌝ }
     {
         let after = self.read(register);
-        let v = self.data(register);
+        let v = self.read_data(register);
         after.with_shift(answer_word(self.shift, v))
     }
 
@@ -425,39 +235,31 @@ impl Device {
         ensures { λ r. ⌜ r ≡ scanned self a b c d ⌝ }
     {
         let keys = self.keys;
-        let ports = self.controls.ports;
-        self.with_keys(keys.scanned(ports, a, b, c, d))
+        self.with_keys(keys.scanned(self.controls.ports, a, b, c, d))
+    }
+
+    // Pin levels given.
+    pub fn with_pins(mut self, levels: u32) -> Device
+        ensures { λ r. ⌜ r ≡ withPins self levels ⌝ }
+    {
+        self.pins = levels;
+        self
     }
 
     // Master clocks given.
     pub fn clocked(mut self, clocks: u32) -> Device
         ensures { λ r. ⌜ r ≡ clocked self clocks ⌝ }
     {
-        let sum = self.blink as u64 + clocks as u64;
-        self.blink = (sum % 4000000) as u32;
+        let blink = blink::advanced(self.blink, clocks);
+        self.blink = blink;
         self
-    }
-
-    // The blink phase.
-    pub fn phase(self) -> Plane
-        ensures { λ r. ⌜ r ≡ phaseOf self ⌝ }
-    {
-        if self.config.b % 2 == 1 {
-            if self.blink % 2000000 < 1000000 { Plane::P0 } else { Plane::P1 }
-        } else {
-            if self.blink < 2000000 { Plane::P0 } else { Plane::P1 }
-        }
     }
 
     // The plane shown.
     pub fn shown(self) -> Plane
         ensures { λ r. ⌜ r ≡ shownPlane self ⌝ }
     {
-        if self.config.e % 2 == 1 {
-            self.phase()
-        } else {
-            Plane::P0
-        }
+        blink::shown(self.blink, self.config.b % 2 == 1, self.config.e % 2 == 1)
     }
 
     // Whether every field fits its register's width and the blink count is below 4,000,000.
@@ -474,79 +276,9 @@ impl Device {
     }
 }
 
-// The ports that no key group takes, by the number of groups.
-const FREE: [u8; 4] = [31, 14, 12, 8];
-
-fn free_ports(groups: u8) -> u8
-    ensures { λ r. ⌜ r ≡ freePorts groups ⌝ }
-{
-    let n = groups as usize;
-    if n < 4 { FREE[n] } else { 0 }
-}
-
-// P4 as the interrupt, where a group is configured.
-fn irq_level(groups: u8, interrupt: u8) -> u8
-    ensures { λ r. ⌜ r ≡ if (eqb groups 0) 0 (interrupt % 2 * 16) ⌝ }
-{
-    if groups == 0 { 0 } else { interrupt % 2 * 16 }
-}
-
-// P of the configuration register.
-fn phase_bit(phase: Plane) -> u8
-    ensures { λ r. ⌜ (r ≡ phaseBit phase) × (r ≤ 1) ⌝ }
-{
-    match phase {
-        Plane::P0 => 1,
-        Plane::P1 => 0,
-    }
-}
-
 // A shift word with its D7 to D0 replaced.
 fn answer_word(shift: u16, v: u8) -> u16
     ensures { λ r. ⌜ r ≡ answerWord shift v ⌝ }
 {
     shift / 256 * 256 + v as u16
-}
-
-// The blink count, or 0 where it is restarted.
-fn restarted(blink: u32, restart: bool) -> u32
-    ensures { λ r. ⌜ r ≡ if restart 0 blink ⌝ }
-{
-    if restart { 0 } else { blink }
-}
-
-// The element at i, or 0 where i is past the end.
-fn get8(a: [u8; 8], i: u8) -> u8
-    ensures { λ r. ⌜ r ≡ getD a i 0 ⌝ }
-{
-    let k = i as usize;
-    if k < 8 { a[k] } else { 0 }
-}
-
-fn get16(a: [u8; 16], i: u8) -> u8
-    ensures { λ r. ⌜ r ≡ getD a i 0 ⌝ }
-{
-    let k = i as usize;
-    if k < 16 { a[k] } else { 0 }
-}
-
-// The array with v at i, or as it was where i is past the end.
-fn put8(mut a: [u8; 8], i: u8, v: u8) -> [u8; 8]
-    ensures { λ r. ⌜ r ≡ set a i v ⌝ }
-{
-    let k = i as usize;
-    if k < 8 {
-        a[k] = v;
-    }
-    a
-}
-
-fn put16(mut a: [u8; 16], i: u8, v: u8) -> [u8; 16]
-    ensures { λ r. ⌜ r ≡ set a i v ⌝ }
-{
-    let k = i as usize;
-    if k < 16 {
-        a[k] = v;
-    }
-    a
 }

@@ -1,6 +1,6 @@
 // The keys of a MAX6954: four groups of eight, scanned into debounced registers with an interrupt.
 ghost use mathlib.Core.Path.{_≡_};
-ghost use Rattle.keys.specs.Keys.{released, groupOf, withGroup, newly, scannedGroup, raises, groupsOf, closedOf, maskWritten, debouncedRead, scannedKeys};
+ghost use Rattle.keys.specs.Keys.{groupOf, withGroup, newly, scannedGroup, raises, groupsOf, closedOf, maskWritten, debouncedRead, scannedKeys};
 ghost use Rattle.words.specs.Choice.{if};
 ghost use Rattle.keys.specs.KeyByKey.{KeyByKey};
 use words::KeyGroup;
@@ -69,13 +69,7 @@ impl Keys {
         interrupt: 0,
     };
 
-    pub fn new() -> Keys
-        ensures { λ r. ⌜ r ≡ released ⌝ }
-    {
-        Keys::RELEASED
-    }
-
-    pub fn group(self, group: KeyGroup) -> Group
+    fn group(self, group: KeyGroup) -> Group
         ensures { λ r. ⌜ r ≡ groupOf self group ⌝ }
     {
         let a = self.a;
@@ -120,6 +114,22 @@ impl Keys {
         let mut new = self.group(group);
         new.mask = mask;
         self.with_group(group, new)
+    }
+
+    // A debounced register.
+    pub fn debounced(self, group: KeyGroup) -> u8
+        ensures { λ r. ⌜ r ≡ groupOf self group .debounced ⌝ }
+    {
+        let g = self.group(group);
+        g.debounced
+    }
+
+    // A pressed register.
+    pub fn pressed(self, group: KeyGroup) -> u8
+        ensures { λ r. ⌜ r ≡ groupOf self group .pressed ⌝ }
+    {
+        let g = self.group(group);
+        g.pressed
     }
 
     // What a read of a debounced register leaves: it and the interrupt are cleared.

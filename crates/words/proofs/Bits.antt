@@ -1,10 +1,12 @@
 -- The bits of numbers: of `and`, `or` and complement, at every place and over every width.
 -- Assumes nothing.
 use Prim.Native.Nat.{ℕ, zero, suc, _+_, _-_, _*_, _/_, _%_, _^_, _<_}
-use native.Mathlib.Nat.{mod-lt, zero-lt-suc, pow-succ', div-div-eq-div-mul, div-one}
+use native.Mathlib.Nat.{mod-lt, zero-lt-suc, pow-suc, pow-succ', div-div-eq-div-mul, div-one}
 use native.Mathlib.Omega.{arith}
 use mathlib.Core.Bool.{Bool, true, false, not, _&&_, _||_}
 use mathlib.Core.Path.{_≡_, refl, sym, ap, ap₂, _∙_}
+use lib.Arith.{mod-mul}
+use lib.Pow.{pow-pos}
 use lib.Dec.{eqb}
 use lib.Bits.{bitAnd, bitOr, and-shr, and-mod, or-shr, or-mod}
 use borrow.Author.Tests.{eq-eqb, ne-eqb}
@@ -37,6 +39,19 @@ or-bit k a b =
 -- bit k + 1 of a number is bit k of its half
 pub next-bit : (k n : ℕ) → bit (suc k) n ≡ bit k (n / 2)
 next-bit k n = rw (pow-succ', div-div-eq-div-mul)
+
+-- the half of a number's last w + 1 bits, and its last bit
+half-low : (w n : ℕ) → (n % 2 ^ suc w) / 2 ≡ n / 2 % 2 ^ w
+half-low w n = rw (pow-suc, mod-mul n (pow-pos w) (zero-lt-suc 1)) (omega arith)
+
+odd-low : (w n : ℕ) → n % 2 ^ suc w % 2 ≡ n % 2
+odd-low w n = rw (pow-suc, mod-mul n (pow-pos w) (zero-lt-suc 1)) (omega arith)
+
+-- the last w bits of a number are its own
+pub low-bit : (w k n : ℕ) → k < w → bit k (n % 2 ^ w) ≡ bit k n
+low-bit zero k n h = absurd (omega arith)
+low-bit (suc w) zero n h = rw (div-one, div-one, odd-low)
+low-bit (suc w) (suc k) n h = rw (next-bit, next-bit, half-low) (low-bit w k (n / 2) (omega arith))
 
 -- digit 1 or not, by its value
 digit-not : (x y : ℕ) → x < 2 → x + y ≡ 1 → eqb y 1 ≡ not (eqb x 1)

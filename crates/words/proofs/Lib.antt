@@ -1,2 +1,4 @@
+pub mod Arrays
+pub mod Below
 pub mod Bits
 pub mod Tests

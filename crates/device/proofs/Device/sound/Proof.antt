@@ -3,18 +3,18 @@ use Rattle.device.proofs.Device.sound.Statement.{statement}
 use Rattle.device.proofs.Device.sound.Tie as tie
 use Rattle.device.proofs.Device.sound.Reads as reads
 use Rattle.device.proofs.Device.sound.Lts as lts
-use Rattle.device.proofs.Config.sound.Reads as Config-sound-reads
-use Rattle.device.proofs.Controls.sound.Reads as Controls-sound-reads
+use Rattle.controls.proofs.Config.sound.Reads as Config-sound-reads
+use Rattle.controls.proofs.Controls.sound.Reads as Controls-sound-reads
 
--- src/lib.rt:470:9
+-- src/lib.rt:271:9
 sound-requires : tie.Need-sound-requires
 sound-requires c κs = search needs
 
--- src/lib.rt:471:15
+-- src/lib.rt:272:15
 sound-requires-2 : tie.Need-sound-requires-2
 sound-requires-2 c κs = search needs
 
--- src/lib.rt:465:5
+-- src/lib.rt:266:5
 returns : tie.Need-returns
 returns c = simp (c .before .before .before .before .sound .ensures, c .before .before .before .sound2 .ensures)
 

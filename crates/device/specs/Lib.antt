@@ -4,3 +4,5 @@ pub mod Sound
 pub mod Registers
 pub mod Words
 pub mod Steps
+pub mod Soundness
+pub mod Examples

@@ -3,15 +3,16 @@
 -- Assumes nothing.
 use mathlib.Core.Bool.{Bool, _&&_}
 use lib.Dec.{ltb}
+use Rattle.keys.specs.Keys.{soundKeys}
 use Rattle.controls.specs.Controls.{soundControls}
 use Rattle.controls.specs.Config.{soundConfig}
 use Rattle.device.specs.declared.Device.{Device}
 
--- the interrupt is one bit, the pin levels are five
+-- the pin levels are five bits
 abbrev pub soundOf : Device → Bool
 soundOf d =
     soundControls (d .controls)
     && soundConfig (d .config)
-    && ltb (d .keys .interrupt) 2
+    && soundKeys (d .keys)
     && ltb (d .pins) 32
     && ltb (d .blink) 4000000

@@ -6,6 +6,8 @@ ghost use Rattle.device.specs.Sound.{soundOf};
 ghost use Rattle.device.specs.Registers.{configured, written, phaseOf, levelsOf, dataOf, afterRead};
 ghost use Rattle.device.specs.Words.{answerWord, answered, taken};
 ghost use Rattle.device.specs.Steps.{scanned, clocked, shownPlane};
+ghost use Rattle.device.specs.Soundness.{Soundness};
+ghost use Rattle.device.specs.Examples.{Examples};
 use controls::Config;
 use controls::Controls;
 use digits::Planes;
@@ -268,9 +270,10 @@ impl Device {
     {
         let controls = self.controls;
         let config = self.config;
+        let keys = self.keys;
         controls.sound()
             & config.sound()
-            & (self.keys.interrupt < 2)
+            & keys.sound()
             & (self.pins < 32)
             & (self.blink < 4000000)
     }
@@ -282,3 +285,13 @@ fn answer_word(shift: u16, v: u8) -> u16
 {
     shift / 256 * 256 + v as u16
 }
+
+// A theorem: the power-up record is sound, and each step leaves a sound record sound.
+pub fn soundness()
+    ensures { λ _. ⌜ Soundness ⌝ }
+{}
+
+// A theorem: the bench examples of one driver.
+pub fn examples()
+    ensures { λ _. ⌜ Examples ⌝ }
+{}

@@ -32,6 +32,10 @@ withGroup k D g = record { a = k .a; b = k .b; c = k .c; d = g; interrupt = k .i
 abbrev pub withInterrupt : Keys → ℕ → Keys
 withInterrupt k v = record { a = k .a; b = k .b; c = k .c; d = k .d; interrupt = v }
 
+-- the interrupt is one bit; the other fields are bytes
+abbrev pub soundKeys : Keys → Bool
+soundKeys k = ltb (k .interrupt) 2
+
 -- 0x08..0x0B written: key masks A to D
 abbrev pub maskWritten : Keys → KeyGroup → ℕ → Keys
 maskWritten k j v =

@@ -1,6 +1,6 @@
 // The keys of a MAX6954: four groups of eight, scanned into debounced registers with an interrupt.
 ghost use mathlib.Core.Path.{_≡_};
-ghost use Rattle.keys.specs.Keys.{groupOf, withGroup, newly, scannedGroup, raises, groupsOf, closedOf, maskWritten, debouncedRead, scannedKeys};
+ghost use Rattle.keys.specs.Keys.{groupOf, withGroup, newly, scannedGroup, raises, groupsOf, closedOf, maskWritten, debouncedRead, scannedKeys, soundKeys};
 ghost use Rattle.words.specs.Choice.{if};
 ghost use Rattle.keys.specs.KeyByKey.{KeyByKey};
 use words::KeyGroup;
@@ -140,6 +140,13 @@ impl Keys {
         new.debounced = 0;
         self.interrupt = 0;
         self.with_group(group, new)
+    }
+
+    // Whether the interrupt is one bit.
+    pub fn sound(self) -> bool
+        ensures { λ r. ⌜ r ≡ soundKeys self ⌝ }
+    {
+        self.interrupt < 2
     }
 
     // A scan: the closed keys of groups A to D, and the port configuration.

@@ -2,3 +2,4 @@ pub mod Arrays
 pub mod Below
 pub mod Bits
 pub mod Tests
+pub mod Truth

@@ -1,0 +1,45 @@
+-- What is written fits its register's width.
+-- Assumes nothing.
+use Prim.Native.Nat.{ℕ, _/_}
+use mathlib.Core.Bool.{true, _&&_}
+use mathlib.Core.Path.{_≡_}
+use lib.Dec.{ltb}
+use Rattle.words.proofs.Truth.{and-left, and-right, mod-small}
+use Rattle.words.specs.declared.ControlRegister.{ControlRegister}
+use Rattle.words.specs.declared.ControlRegister.the-variants.{DecodeMode, GlobalIntensity, ScanLimit, GpioData, PortConfiguration, DisplayTest, DigitType}
+use Rattle.controls.specs.Controls.{controlWritten, soundControls}
+use Rattle.controls.specs.Config.{configOf, soundConfig}
+use Rattle.controls.specs.declared.Controls.{Controls}
+
+-- the four tests of `soundControls`
+record Parts (x : Controls) : Type 0 where
+  global : ltb (x .global) 16 ≡ true
+  limit : ltb (x .limit) 8 ≡ true
+  gpio : ltb (x .gpio) 32 ≡ true
+  test : ltb (x .test) 2 ≡ true
+
+parts : (x : Controls) → soundControls x ≡ true → Parts x
+parts x e =
+    let g = ltb (x .global) 16 in
+    let l = ltb (x .limit) 8 in
+    let o = ltb (x .gpio) 32 in
+    let e3 = and-left (g && l && o) (ltb (x .test) 2) e in
+    let e2 = and-left (g && l) o e3 in
+    record {
+      global = and-left g l e2;
+      limit = and-right g l e2;
+      gpio = and-right (g && l) o e3;
+      test = and-right (g && l && o) (ltb (x .test) 2) e;
+    }
+
+pub written-sound : (x : Controls) (c : ControlRegister) (v : ℕ) → soundControls x ≡ true → soundControls (controlWritten x c v) ≡ true
+written-sound x DecodeMode v e = e
+written-sound x GlobalIntensity v e = let p = parts x e in rw (mod-small v 15, p .limit, p .gpio, p .test)
+written-sound x ScanLimit v e = let p = parts x e in rw (p .global, mod-small v 7, p .gpio, p .test)
+written-sound x GpioData v e = let p = parts x e in rw (p .global, p .limit, mod-small v 31, p .test)
+written-sound x PortConfiguration v e = e
+written-sound x DisplayTest v e = let p = parts x e in rw (p .global, p .limit, p .gpio, mod-small v 1)
+written-sound x DigitType v e = e
+
+pub stored-sound : (v : ℕ) → soundConfig (configOf v) ≡ true
+stored-sound v = rw (mod-small (v / 64) 1, mod-small (v / 8) 1, mod-small (v / 4) 1, mod-small v 1)

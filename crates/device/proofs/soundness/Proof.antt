@@ -1,0 +1,10 @@
+-- `device::soundness` meets its contract. Assumes nothing.
+use Rattle.device.proofs.Sound.{soundness}
+use Rattle.device.proofs.soundness.Statement.{statement}
+use Rattle.device.proofs.soundness.Tie as tie
+
+returns : tie.Need-returns
+returns c = soundness
+
+pub soundness-spec : {M : Type 1} → statement M
+soundness-spec = tie.close (tie.spec returns)

@@ -1,0 +1,31 @@
+-- Each step leaves the interrupt one bit.
+-- Assumes nothing.
+use Prim.Native.Nat.{ℕ}
+use mathlib.Core.Bool.{true, _||_}
+use mathlib.Core.Path.{_≡_, refl}
+use Rattle.words.proofs.Truth.{if-small}
+use Rattle.words.specs.declared.KeyGroup.{KeyGroup}
+use Rattle.words.specs.declared.KeyGroup.the-variants.{A, B, C, D}
+use Rattle.keys.specs.Keys.{maskWritten, debouncedRead, closedOf, raises, scannedKeys, soundKeys}
+use Rattle.keys.specs.declared.Keys.{Keys}
+
+pub masked-sound : (k : Keys) (g : KeyGroup) (v : ℕ) → soundKeys k ≡ true → soundKeys (maskWritten k g v) ≡ true
+masked-sound k A v e = e
+masked-sound k B v e = e
+masked-sound k C v e = e
+masked-sound k D v e = e
+
+pub read-sound : (k : Keys) (g : KeyGroup) → soundKeys (debouncedRead k g) ≡ true
+read-sound k A = refl
+read-sound k B = refl
+read-sound k C = refl
+read-sound k D = refl
+
+pub scanned-sound : (k : Keys) (ports a b c d : ℕ) → soundKeys k ≡ true → soundKeys (scannedKeys k ports a b c d) ≡ true
+scanned-sound k ports a b c d e =
+    if-small
+    (raises (k .a) (closedOf ports 0 a)
+    || raises (k .b) (closedOf ports 1 b)
+    || raises (k .c) (closedOf ports 2 c)
+    || raises (k .d) (closedOf ports 3 d))
+    1 (k .interrupt) 2 refl e

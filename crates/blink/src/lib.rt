@@ -24,9 +24,17 @@ pub fn phase(count: u32, fast: bool) -> Plane
     ensures { λ r. ⌜ r ≡ phaseAt count fast ⌝ }
 {
     if fast {
-        if count % 2000000 < 1000000 { Plane::P0 } else { Plane::P1 }
+        if count % 2000000 < 1000000 {
+            Plane::P0
+        } else {
+            Plane::P1
+        }
     } else {
-        if count < 2000000 { Plane::P0 } else { Plane::P1 }
+        if count < 2000000 {
+            Plane::P0
+        } else {
+            Plane::P1
+        }
     }
 }
 
@@ -34,5 +42,9 @@ pub fn phase(count: u32, fast: bool) -> Plane
 pub fn shown(count: u32, fast: bool, blinking: bool) -> Plane
     ensures { λ r. ⌜ r ≡ shownAt count fast blinking ⌝ }
 {
-    if blinking { phase(count, fast) } else { Plane::P0 }
+    if blinking {
+        phase(count, fast)
+    } else {
+        Plane::P0
+    }
 }

@@ -34,8 +34,10 @@ rows =
     -- 8: a key closed in three scans is debounced at the second only; open, closed, closed: again
     ∷ (reports (taken powerUp 0x0620) (1 ∷ 1 ∷ 1 ∷ 0 ∷ 1 ∷ 1 ∷ []), 0 ∷ 1 ∷ 0 ∷ 0 ∷ 0 ∷ 1 ∷ [])
     -- 9: slow, counts 1,999,999 and 2,000,000: P reads 1, 0; fast, 1,000,000: 0
-    ∷ (phaseRead powerUp 1999999 ∷ phaseRead powerUp 2000000 ∷ phaseRead (taken powerUp 0x0404) 1000000 ∷ [],
-      1 ∷ 0 ∷ 0 ∷ [])
+    ∷ (
+      phaseRead powerUp 1999999 ∷ phaseRead powerUp 2000000 ∷ phaseRead (taken powerUp 0x0404) 1000000 ∷ [],
+      1 ∷ 0 ∷ 0 ∷ [],
+    )
     ∷ []
 
 abbrev pub Examples : Type 0

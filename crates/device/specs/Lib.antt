@@ -6,3 +6,4 @@ pub mod Words
 pub mod Steps
 pub mod Soundness
 pub mod Examples
+pub mod ShiftWord

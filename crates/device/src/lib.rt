@@ -7,6 +7,7 @@ ghost use Rattle.device.specs.Registers.{configured, written, phaseOf, l
 ghost use Rattle.device.specs.Words.{answerWord, answered, taken};
 ghost use Rattle.device.specs.Steps.{scanned, clocked, shownPlane};
 ghost use Rattle.device.specs.Soundness.{Soundness};
+ghost use Rattle.device.specs.ShiftWord.{ShiftWord};
 ghost use Rattle.device.specs.Examples.{Examples};
 use controls::Config;
 use controls::Controls;
@@ -271,11 +272,7 @@ impl Device {
         let controls = self.controls;
         let config = self.config;
         let keys = self.keys;
-        controls.sound()
-            & config.sound()
-            & keys.sound()
-            & (self.pins < 32)
-            & (self.blink < 4000000)
+        controls.sound() & config.sound() & keys.sound() & (self.pins < 32) & (self.blink < 4000000)
     }
 }
 
@@ -289,6 +286,11 @@ fn answer_word(shift: u16, v: u8) -> u16
 // A theorem: the power-up record is sound, and each step leaves a sound record sound.
 pub fn soundness()
     ensures { λ _. ⌜ Soundness ⌝ }
+{}
+
+// A theorem: the shift word after a word is taken.
+pub fn shift_word()
+    ensures { λ _. ⌜ ShiftWord ⌝ }
 {}
 
 // A theorem: the bench examples of one driver.

@@ -1,22 +1,17 @@
+-- `blink::phase` meets its contract. Assumes nothing.
 use Rattle.words.proofs.Tests.{tests}
 use Rattle.blink.proofs.phase.Statement.{statement}
 use Rattle.blink.proofs.phase.Tie as tie
-use Rattle.blink.proofs.phase.Reads as reads
-use Rattle.blink.proofs.phase.Lts as lts
 
--- src/lib.rt:23:1
 returns : tie.Need-returns
 returns c = rw (c .before .if1 .taken) (search tests)
 
--- src/lib.rt:23:1
 returns-2 : tie.Need-returns-2
 returns-2 c = rw (c .before .if1 .taken) (search tests)
 
--- src/lib.rt:23:1
 returns-3 : tie.Need-returns-3
 returns-3 c = rw (c .before .if1 .left) (search tests)
 
--- src/lib.rt:23:1
 returns-4 : tie.Need-returns-4
 returns-4 c = rw (c .before .if1 .left) (search tests)
 

@@ -1,19 +1,15 @@
+-- `digits::put16` meets its contract. Assumes nothing.
 use Rattle.words.proofs.Arrays.{kept}
 use borrow.Author.Needs.{needs}
 use Rattle.digits.proofs.put16.Statement.{statement}
 use Rattle.digits.proofs.put16.Tie as tie
-use Rattle.digits.proofs.put16.Reads as reads
-use Rattle.digits.proofs.put16.Lts as lts
 
--- src/lib.rt:102:9
 array-write-a : tie.Need-array-write-a
 array-write-a c = search needs
 
--- src/lib.rt:97:1
 returns : tie.Need-returns
 returns c = search needs
 
--- src/lib.rt:97:1
 returns-2 : tie.Need-returns-2
 returns-2 c = kept 16 _ _ _ (search needs) (search needs)
 

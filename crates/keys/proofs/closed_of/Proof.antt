@@ -1,20 +1,15 @@
+-- `keys::closed_of` meets its contract. Assumes nothing.
 use Rattle.words.proofs.Tests.{tests}
 use borrow.Author.Needs.{needs}
 use Rattle.keys.proofs.closed_of.Statement.{statement}
 use Rattle.keys.proofs.closed_of.Tie as tie
-use Rattle.keys.proofs.closed_of.Reads as reads
-use Rattle.keys.proofs.closed_of.Lts as lts
-use Rattle.keys.proofs.groups.Reads as groups-reads
 
--- src/lib.rt:171:16
 groups-requires : tie.Need-groups-requires
 groups-requires c κs = search needs
 
--- src/lib.rt:168:1
 returns : tie.Need-returns
 returns c = simp (← c .before .groups .ensures) (search tests)
 
--- src/lib.rt:168:1
 returns-2 : tie.Need-returns-2
 returns-2 c = simp (← c .before .groups .ensures) (search tests)
 

@@ -1,14 +1,11 @@
+-- `keys::groups` meets its contract. Assumes nothing.
 use Rattle.words.proofs.Tests.{tests}
 use Rattle.keys.proofs.groups.Statement.{statement}
 use Rattle.keys.proofs.groups.Tie as tie
-use Rattle.keys.proofs.groups.Reads as reads
-use Rattle.keys.proofs.groups.Lts as lts
 
--- src/lib.rt:160:1
 returns : tie.Need-returns
 returns c = search tests
 
--- src/lib.rt:160:1
 returns-2 : tie.Need-returns-2
 returns-2 c = search tests
 

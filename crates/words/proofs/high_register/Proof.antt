@@ -1,30 +1,23 @@
+-- `words::high_register` meets its contract. Assumes nothing.
 use Rattle.words.proofs.Tests.{tests}
 use Rattle.words.proofs.high_register.Statement.{statement}
 use Rattle.words.proofs.high_register.Tie as tie
-use Rattle.words.proofs.high_register.Reads as reads
-use Rattle.words.proofs.high_register.Lts as lts
 
--- src/lib.rt:85:1
 returns : tie.Need-returns
 returns c = search tests
 
--- src/lib.rt:85:1
 returns-2 : tie.Need-returns-2
 returns-2 c = search tests
 
--- src/lib.rt:85:1
 returns-3 : tie.Need-returns-3
 returns-3 c = search tests
 
--- src/lib.rt:85:1
 returns-4 : tie.Need-returns-4
 returns-4 c = search tests
 
--- src/lib.rt:85:1
 returns-5 : tie.Need-returns-5
 returns-5 c = search tests
 
--- src/lib.rt:85:1
 returns-6 : tie.Need-returns-6
 returns-6 c = search tests
 

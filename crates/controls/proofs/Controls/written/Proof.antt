@@ -1,63 +1,48 @@
+-- `controls::Controls::written` meets its contract. Assumes nothing.
 use Rattle.words.proofs.Tests.{tests}
 use borrow.Author.Needs.{needs}
 use Rattle.controls.proofs.Controls.written.Statement.{statement}
 use Rattle.controls.proofs.Controls.written.Tie as tie
-use Rattle.controls.proofs.Controls.written.Reads as reads
-use Rattle.controls.proofs.Controls.written.Lts as lts
 
--- src/lib.rt:33:17
 enum-told : tie.Need-enum-told
 enum-told c = search needs
 
--- src/lib.rt:37:31
 enum-told-2 : tie.Need-enum-told-2
 enum-told-2 c = search needs
 
--- src/lib.rt:41:30
 enum-told-3 : tie.Need-enum-told-3
 enum-told-3 c = search needs
 
--- src/lib.rt:45:29
 enum-told-4 : tie.Need-enum-told-4
 enum-told-4 c = search needs
 
--- src/lib.rt:49:17
 enum-told-5 : tie.Need-enum-told-5
 enum-told-5 c = search needs
 
--- src/lib.rt:53:29
 enum-told-6 : tie.Need-enum-told-6
 enum-told-6 c = search needs
 
--- src/lib.rt:57:17
 enum-told-7 : tie.Need-enum-told-7
 enum-told-7 c = search needs
 
--- src/lib.rt:28:5
 returns : tie.Need-returns
 returns c = simp (c .enum-told .given .1) (search tests)
 
--- src/lib.rt:28:5
 returns-2 : tie.Need-returns-2
 returns-2 c = simp (c .enum-told2 .given .1) (search tests)
 
--- src/lib.rt:28:5
 returns-3 : tie.Need-returns-3
 returns-3 c = simp (c .enum-told3 .given .1) (search tests)
 
--- src/lib.rt:28:5
 returns-4 : tie.Need-returns-4
 returns-4 c = simp (c .enum-told4 .given .1) (search tests)
 
--- src/lib.rt:28:5
 returns-5 : tie.Need-returns-5
 returns-5 c = simp (c .enum-told5 .given .1) (search tests)
 
--- src/lib.rt:28:5
 returns-6 : tie.Need-returns-6
 returns-6 c = simp (c .enum-told6 .given .1) (search tests)
 
--- src/lib.rt:28:5
 returns-7 : tie.Need-returns-7
 returns-7 c = simp (c .enum-told7 .given .1) (search tests)
 

@@ -1,97 +1,72 @@
+-- `device::Device::read` meets its contract. Assumes nothing.
 use Rattle.words.proofs.Tests.{tests}
 use borrow.Author.Needs.{needs}
 use Rattle.device.proofs.Device.read.Statement.{statement}
 use Rattle.device.proofs.Device.read.Tie as tie
-use Rattle.device.proofs.Device.read.Reads as reads
-use Rattle.device.proofs.Device.read.Lts as lts
-use Rattle.device.proofs.Device.with_keys.Reads as with-keys-reads
-use Rattle.keys.proofs.Keys.read.Reads as read-reads
 
--- src/lib.rt:200:31
 enum-told : tie.Need-enum-told
 enum-told c = search needs
 
--- src/lib.rt:201:37
 enum-told-2 : tie.Need-enum-told-2
 enum-told-2 c = search needs
 
--- src/lib.rt:202:40
 enum-told-3 : tie.Need-enum-told-3
 enum-told-3 c = search needs
 
--- src/lib.rt:203:37
 enum-told-4 : tie.Need-enum-told-4
 enum-told-4 c = search needs
 
--- src/lib.rt:204:36
 enum-known-register : tie.Need-enum-known-register
 enum-known-register c = search needs
 
--- src/lib.rt:204:61
 read-requires : tie.Need-read-requires
 read-requires c κs = search needs
 
--- src/lib.rt:204:46
 with-keys-requires : tie.Need-with-keys-requires
 with-keys-requires c κs = search needs
 
--- src/lib.rt:205:40
 enum-told-5 : tie.Need-enum-told-5
 enum-told-5 c = search needs
 
--- src/lib.rt:206:39
 enum-told-6 : tie.Need-enum-told-6
 enum-told-6 c = search needs
 
--- src/lib.rt:207:38
 enum-told-7 : tie.Need-enum-told-7
 enum-told-7 c = search needs
 
--- src/lib.rt:208:40
 enum-told-8 : tie.Need-enum-told-8
 enum-told-8 c = search needs
 
--- src/lib.rt:209:35
 enum-told-9 : tie.Need-enum-told-9
 enum-told-9 c = search needs
 
--- src/lib.rt:195:5
 returns : tie.Need-returns
 returns c = simp (c .enum-told .given .1) (search tests)
 
--- src/lib.rt:195:5
 returns-2 : tie.Need-returns-2
 returns-2 c = simp (c .enum-told2 .given .1) (search tests)
 
--- src/lib.rt:195:5
 returns-3 : tie.Need-returns-3
 returns-3 c = simp (c .enum-told3 .given .1) (search tests)
 
--- src/lib.rt:195:5
 returns-4 : tie.Need-returns-4
 returns-4 c = simp (c .enum-told4 .given .1) (search tests)
 
--- src/lib.rt:195:5
 returns-5 : tie.Need-returns-5
 returns-5 c = simp (c .before .before .before .register .given .1, c .before .read .ensures, c .with-keys .ensures) (search tests)
 
--- src/lib.rt:195:5
 returns-6 : tie.Need-returns-6
 returns-6 c = simp (c .enum-told5 .given .1) (search tests)
 
--- src/lib.rt:195:5
 returns-7 : tie.Need-returns-7
 returns-7 c = simp (c .enum-told6 .given .1) (search tests)
 
--- src/lib.rt:195:5
 returns-8 : tie.Need-returns-8
 returns-8 c = simp (c .enum-told7 .given .1) (search tests)
 
--- src/lib.rt:195:5
 returns-9 : tie.Need-returns-9
 returns-9 c = simp (c .enum-told8 .given .1) (search tests)
 
--- src/lib.rt:195:5
 returns-10 : tie.Need-returns-10
 returns-10 c = simp (c .enum-told9 .given .1) (search tests)
 

@@ -1,141 +1,99 @@
+-- `device::Device::written` meets its contract. Assumes nothing.
 use Rattle.words.proofs.Tests.{tests}
 use borrow.Author.Needs.{needs}
 use Rattle.device.proofs.Device.written.Statement.{statement}
 use Rattle.device.proofs.Device.written.Tie as tie
-use Rattle.device.proofs.Device.written.Reads as reads
-use Rattle.device.proofs.Device.written.Lts as lts
-use Rattle.controls.proofs.Controls.written.Reads as Controls-written-reads
-use Rattle.device.proofs.Device.configured.Reads as configured-reads
-use Rattle.device.proofs.Device.with_controls.Reads as with-controls-reads
-use Rattle.device.proofs.Device.with_intensities.Reads as with-intensities-reads
-use Rattle.device.proofs.Device.with_keys.Reads as with-keys-reads
-use Rattle.device.proofs.Device.with_planes.Reads as with-planes-reads
-use Rattle.digits.proofs.Planes.both_written.Reads as both-written-reads
-use Rattle.digits.proofs.Planes.written.Reads as Planes-written-reads
-use Rattle.digits.proofs.intensity_written.Reads as intensity-written-reads
-use Rattle.keys.proofs.Keys.masked.Reads as masked-reads
 
--- src/lib.rt:137:31
 enum-told : tie.Need-enum-told
 enum-told c = search needs
 
--- src/lib.rt:138:31
 enum-known-register : tie.Need-enum-known-register
 enum-known-register c = search needs
 
--- src/lib.rt:138:62
 written-requires : tie.Need-written-requires
 written-requires c κs = search needs
 
--- src/lib.rt:138:43
 with-controls-requires : tie.Need-with-controls-requires
 with-controls-requires c κs = search needs
 
--- src/lib.rt:139:40
 enum-told-2 : tie.Need-enum-told-2
 enum-told-2 c = search needs
 
--- src/lib.rt:139:40
 configured-requires : tie.Need-configured-requires
 configured-requires c κs = search needs
 
--- src/lib.rt:140:31
 enum-known-register-2 : tie.Need-enum-known-register-2
 enum-known-register-2 c = search needs
 
--- src/lib.rt:140:56
 masked-requires : tie.Need-masked-requires
 masked-requires c κs = search needs
 
--- src/lib.rt:140:41
 with-keys-requires : tie.Need-with-keys-requires
 with-keys-requires c κs = search needs
 
--- src/lib.rt:141:42
 enum-told-3 : tie.Need-enum-told-3
 enum-told-3 c = search needs
 
--- src/lib.rt:142:40
 enum-told-4 : tie.Need-enum-told-4
 enum-told-4 c = search needs
 
--- src/lib.rt:143:33
 enum-known-register-3 : tie.Need-enum-known-register-3
 enum-known-register-3 c = search needs
 
--- src/lib.rt:144:39
 intensity-written-requires : tie.Need-intensity-written-requires
 intensity-written-requires c κs = search needs
 
--- src/lib.rt:144:17
 with-intensities-requires : tie.Need-with-intensities-requires
 with-intensities-requires c κs = search needs
 
--- src/lib.rt:146:29
 enum-known-register-4 : tie.Need-enum-known-register-4
 enum-known-register-4 c = search needs
 
--- src/lib.rt:146:63
 written-requires-2 : tie.Need-written-requires-2
 written-requires-2 c κs = search needs
 
--- src/lib.rt:146:46
 with-planes-requires : tie.Need-with-planes-requires
 with-planes-requires c κs = search needs
 
--- src/lib.rt:147:34
 enum-known-register-5 : tie.Need-enum-known-register-5
 enum-known-register-5 c = search needs
 
--- src/lib.rt:147:61
 both-written-requires : tie.Need-both-written-requires
 both-written-requires c κs = search needs
 
--- src/lib.rt:147:44
 with-planes-requires-2 : tie.Need-with-planes-requires-2
 with-planes-requires-2 c κs = search needs
 
--- src/lib.rt:148:35
 enum-told-5 : tie.Need-enum-told-5
 enum-told-5 c = search needs
 
--- src/lib.rt:129:5
 returns : tie.Need-returns
 returns c = simp (c .enum-told .given .1) (search tests)
 
--- src/lib.rt:129:5
 returns-2 : tie.Need-returns-2
 returns-2 c = simp (c .before .before .before .register .given .1, c .before .written .ensures, c .with-controls .ensures) (search tests)
 
--- src/lib.rt:129:5
 returns-3 : tie.Need-returns-3
 returns-3 c = simp (c .before .enum-told2 .given .1, c .configured .ensures) (search tests)
 
--- src/lib.rt:129:5
 returns-4 : tie.Need-returns-4
 returns-4 c = simp (c .before .before .before .register2 .given .1, c .before .masked .ensures, c .with-keys .ensures) (search tests)
 
--- src/lib.rt:129:5
 returns-5 : tie.Need-returns-5
 returns-5 c = simp (c .enum-told3 .given .1) (search tests)
 
--- src/lib.rt:129:5
 returns-6 : tie.Need-returns-6
 returns-6 c = simp (c .enum-told4 .given .1) (search tests)
 
--- src/lib.rt:129:5
 returns-7 : tie.Need-returns-7
 returns-7 c = simp (c .before .before .before .register3 .given .1, c .before .intensity-written .ensures, c .with-intensities .ensures) (search tests)
 
--- src/lib.rt:129:5
 returns-8 : tie.Need-returns-8
 returns-8 c = simp (c .before .before .before .register4 .given .1, c .before .written2 .ensures, c .with-planes .ensures) (search tests)
 
--- src/lib.rt:129:5
 returns-9 : tie.Need-returns-9
 returns-9 c = simp (c .before .before .before .register5 .given .1, c .before .both-written .ensures, c .with-planes2 .ensures) (search tests)
 
--- src/lib.rt:129:5
 returns-10 : tie.Need-returns-10
 returns-10 c = simp (c .enum-told5 .given .1) (search tests)
 

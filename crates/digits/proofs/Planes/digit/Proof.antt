@@ -1,32 +1,24 @@
+-- `digits::Planes::digit` meets its contract. Assumes nothing.
 use Rattle.words.proofs.Tests.{tests}
 use borrow.Author.Needs.{needs}
 use Rattle.digits.proofs.Planes.digit.Statement.{statement}
 use Rattle.digits.proofs.Planes.digit.Tie as tie
-use Rattle.digits.proofs.Planes.digit.Reads as reads
-use Rattle.digits.proofs.Planes.digit.Lts as lts
-use Rattle.digits.proofs.get16.Reads as get16-reads
 
--- src/lib.rt:28:26
 enum-told : tie.Need-enum-told
 enum-told c = search needs
 
--- src/lib.rt:28:26
 get16-requires : tie.Need-get16-requires
 get16-requires c κs = search needs
 
--- src/lib.rt:29:26
 enum-told-2 : tie.Need-enum-told-2
 enum-told-2 c = search needs
 
--- src/lib.rt:29:26
 get16-requires-2 : tie.Need-get16-requires-2
 get16-requires-2 c κs = search needs
 
--- src/lib.rt:22:5
 returns : tie.Need-returns
 returns c = simp (c .before .enum-told .given .1, c .get16 .ensures) (search tests)
 
--- src/lib.rt:22:5
 returns-2 : tie.Need-returns-2
 returns-2 c = simp (c .before .enum-told2 .given .1, c .get162 .ensures) (search tests)
 

@@ -1,32 +1,24 @@
+-- `digits::Planes::written` meets its contract. Assumes nothing.
 use Rattle.words.proofs.Tests.{tests}
 use borrow.Author.Needs.{needs}
 use Rattle.digits.proofs.Planes.written.Statement.{statement}
 use Rattle.digits.proofs.Planes.written.Tie as tie
-use Rattle.digits.proofs.Planes.written.Reads as reads
-use Rattle.digits.proofs.Planes.written.Lts as lts
-use Rattle.digits.proofs.put16.Reads as put16-reads
 
--- src/lib.rt:41:21
 enum-told : tie.Need-enum-told
 enum-told c = search needs
 
--- src/lib.rt:41:21
 put16-requires : tie.Need-put16-requires
 put16-requires c κs = search needs
 
--- src/lib.rt:46:21
 enum-told-2 : tie.Need-enum-told-2
 enum-told-2 c = search needs
 
--- src/lib.rt:46:21
 put16-requires-2 : tie.Need-put16-requires-2
 put16-requires-2 c κs = search needs
 
--- src/lib.rt:34:5
 returns : tie.Need-returns
 returns c = simp (c .before .enum-told .given .1, c .put16 .ensures) (search tests)
 
--- src/lib.rt:34:5
 returns-2 : tie.Need-returns-2
 returns-2 c = simp (c .before .enum-told2 .given .1, c .put162 .ensures) (search tests)
 

@@ -1,0 +1,17 @@
+-- Document 01, "Bits on the wire": the shift word that a driver is left with by the word it takes.
+-- Assumes nothing.
+use Prim.Native.Nat.{ℕ, _/_, _%_}
+use mathlib.Core.Bool.{true, false}
+use mathlib.Core.Path.{_≡_}
+use Rattle.words.specs.Choice.{bit}
+use Rattle.words.specs.Words.{readAt}
+use Rattle.device.specs.Registers.{dataOf}
+use Rattle.device.specs.Words.{answerWord, taken}
+use Rattle.device.specs.declared.Device.{Device}
+
+pub record ShiftWord : Type 0 where
+  -- after a write the shift word stays as clocked
+  pub after-write : (d : Device) (w : ℕ) → bit 15 w ≡ false → taken d w .shift ≡ w
+  -- after a read D7 to D0 are the data that the register had before, D15 to D8 stay
+  pub after-read : (d : Device) (w : ℕ) → bit 15 w ≡ true
+      → taken d w .shift ≡ answerWord w (dataOf d (readAt (w / 256 % 128)))

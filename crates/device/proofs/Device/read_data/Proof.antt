@@ -1,5 +1,4 @@
 -- `device::Device::read_data` meets its contract. Assumes nothing.
-use Rattle.words.proofs.Tests.{tests}
 use borrow.Author.Needs.{needs}
 use Rattle.device.proofs.Device.read_data.Statement.{statement}
 use Rattle.device.proofs.Device.read_data.Tie as tie
@@ -59,34 +58,34 @@ enum-told-5 : tie.Need-enum-told-5
 enum-told-5 c = search needs
 
 returns : tie.Need-returns
-returns c = simp (c .enum-told .given .1) (search tests)
+returns c = simp (c .enum-told .given .1)
 
 returns-2 : tie.Need-returns-2
-returns-2 c = simp (c .before .before .before .register .given .1, c .before .levels .ensures, c .read-data .ensures) (search tests)
+returns-2 c = simp (c .before .before .before .register .given .1, c .before .levels .ensures, c .read-data .ensures)
 
 returns-3 : tie.Need-returns-3
-returns-3 c = simp (c .before .before .enum-told2 .given .1, c .before .phase .ensures, c .read-data2 .ensures) (search tests)
+returns-3 c = simp (c .before .before .enum-told2 .given .1, c .before .phase .ensures, c .read-data2 .ensures)
 
 returns-4 : tie.Need-returns-4
-returns-4 c = simp (c .enum-told3 .given .1) (search tests)
+returns-4 c = simp (c .enum-told3 .given .1)
 
 returns-5 : tie.Need-returns-5
-returns-5 c = simp (c .before .before .register2 .given .1, c .debounced .ensures) (search tests)
+returns-5 c = simp (c .before .before .register2 .given .1, c .debounced .ensures)
 
 returns-6 : tie.Need-returns-6
-returns-6 c = simp (c .before .before .register3 .given .1, c .pressed .ensures) (search tests)
+returns-6 c = simp (c .before .before .register3 .given .1, c .pressed .ensures)
 
 returns-7 : tie.Need-returns-7
-returns-7 c = simp (c .before .before .register4 .given .1, c .intensity .ensures) (search tests)
+returns-7 c = simp (c .before .before .register4 .given .1, c .intensity .ensures)
 
 returns-8 : tie.Need-returns-8
-returns-8 c = simp (c .before .before .register5 .given .1, c .digit .ensures) (search tests)
+returns-8 c = simp (c .before .before .register5 .given .1, c .digit .ensures)
 
 returns-9 : tie.Need-returns-9
-returns-9 c = simp (c .enum-told4 .given .1) (search tests)
+returns-9 c = simp (c .enum-told4 .given .1)
 
 returns-10 : tie.Need-returns-10
-returns-10 c = simp (c .enum-told5 .given .1) (search tests)
+returns-10 c = simp (c .enum-told5 .given .1)
 
 pub read-data-spec : {M : Type 1} → statement M
 read-data-spec =

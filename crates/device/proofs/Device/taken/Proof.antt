@@ -1,6 +1,5 @@
 -- `device::Device::taken` meets its contract. Assumes nothing.
 use Rattle.device.specs.Words.{taken}
-use Rattle.words.proofs.Tests.{tests}
 use borrow.Author.Needs.{needs}
 use Rattle.device.proofs.Device.taken.Statement.{statement}
 use Rattle.device.proofs.Device.taken.Tie as tie
@@ -25,11 +24,11 @@ answered-requires c κs = search needs
 
 returns : tie.Need-returns
 unfolding taken
-returns c = simp (c .before .before .before .before .before .with-shift .ensures, ← c .before .before .before .before .decode .ensures, c .before .before .register .given .1, c .written .ensures) (search tests)
+returns c = simp (c .before .before .before .before .before .with-shift .ensures, ← c .before .before .before .before .decode .ensures, c .before .before .register .given .1, c .written .ensures)
 
 returns-2 : tie.Need-returns-2
 unfolding taken
-returns-2 c = simp (c .before .before .before .before .before .with-shift .ensures, ← c .before .before .before .before .decode .ensures, c .before .before .register2 .given .1, c .answered .ensures) (search tests)
+returns-2 c = simp (c .before .before .before .before .before .with-shift .ensures, ← c .before .before .before .before .decode .ensures, c .before .before .register2 .given .1, c .answered .ensures)
 
 pub taken-spec : {M : Type 1} → statement M
 taken-spec =

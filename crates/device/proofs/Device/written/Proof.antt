@@ -1,5 +1,4 @@
 -- `device::Device::written` meets its contract. Assumes nothing.
-use Rattle.words.proofs.Tests.{tests}
 use borrow.Author.Needs.{needs}
 use Rattle.device.proofs.Device.written.Statement.{statement}
 use Rattle.device.proofs.Device.written.Tie as tie
@@ -68,34 +67,34 @@ enum-told-5 : tie.Need-enum-told-5
 enum-told-5 c = search needs
 
 returns : tie.Need-returns
-returns c = simp (c .enum-told .given .1) (search tests)
+returns c = simp (c .enum-told .given .1)
 
 returns-2 : tie.Need-returns-2
-returns-2 c = simp (c .before .before .before .register .given .1, c .before .written .ensures, c .with-controls .ensures) (search tests)
+returns-2 c = simp (c .before .before .before .register .given .1, c .before .written .ensures, c .with-controls .ensures)
 
 returns-3 : tie.Need-returns-3
-returns-3 c = simp (c .before .enum-told2 .given .1, c .configured .ensures) (search tests)
+returns-3 c = simp (c .before .enum-told2 .given .1, c .configured .ensures)
 
 returns-4 : tie.Need-returns-4
-returns-4 c = simp (c .before .before .before .register2 .given .1, c .before .masked .ensures, c .with-keys .ensures) (search tests)
+returns-4 c = simp (c .before .before .before .register2 .given .1, c .before .masked .ensures, c .with-keys .ensures)
 
 returns-5 : tie.Need-returns-5
-returns-5 c = simp (c .enum-told3 .given .1) (search tests)
+returns-5 c = simp (c .enum-told3 .given .1)
 
 returns-6 : tie.Need-returns-6
-returns-6 c = simp (c .enum-told4 .given .1) (search tests)
+returns-6 c = simp (c .enum-told4 .given .1)
 
 returns-7 : tie.Need-returns-7
-returns-7 c = simp (c .before .before .before .register3 .given .1, c .before .intensity-written .ensures, c .with-intensities .ensures) (search tests)
+returns-7 c = simp (c .before .before .before .register3 .given .1, c .before .intensity-written .ensures, c .with-intensities .ensures)
 
 returns-8 : tie.Need-returns-8
-returns-8 c = simp (c .before .before .before .register4 .given .1, c .before .written2 .ensures, c .with-planes .ensures) (search tests)
+returns-8 c = simp (c .before .before .before .register4 .given .1, c .before .written2 .ensures, c .with-planes .ensures)
 
 returns-9 : tie.Need-returns-9
-returns-9 c = simp (c .before .before .before .register5 .given .1, c .before .both-written .ensures, c .with-planes2 .ensures) (search tests)
+returns-9 c = simp (c .before .before .before .register5 .given .1, c .before .both-written .ensures, c .with-planes2 .ensures)
 
 returns-10 : tie.Need-returns-10
-returns-10 c = simp (c .enum-told5 .given .1) (search tests)
+returns-10 c = simp (c .enum-told5 .given .1)
 
 pub written-spec : {M : Type 1} → statement M
 written-spec =

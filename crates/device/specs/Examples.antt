@@ -5,8 +5,9 @@ use mathlib.Core.List.{List, [], _∷_, map}
 use mathlib.Core.Path.{_≡_}
 use Rattle.words.specs.declared.KeyGroup.the-variants.{A}
 use Rattle.words.specs.declared.Register.the-variants.{KeyDebounced}
+use Rattle.registers.specs.Registers.{dataOf, afterRead}
+use Rattle.device.specs.Record.{withRegisters}
 use Rattle.device.specs.PowerUp.{powerUp}
-use Rattle.device.specs.Registers.{dataOf, afterRead}
 use Rattle.device.specs.Words.{taken}
 use Rattle.device.specs.Steps.{scanned, clocked}
 use Rattle.device.specs.declared.Device.{Device}
@@ -20,8 +21,8 @@ answers d (w ∷ ws) = d .shift ∷ answers (taken d w) ws
 abbrev pub reports : Device → List ℕ → List ℕ
 reports d [] = []
 reports d (keys ∷ scans) =
-    dataOf (scanned d keys 0 0 0) (KeyDebounced A)
-    ∷ reports (afterRead (scanned d keys 0 0 0) (KeyDebounced A)) scans
+    dataOf (scanned d keys 0 0 0 .registers) (KeyDebounced A)
+    ∷ reports (withRegisters d (afterRead (scanned d keys 0 0 0 .registers) (KeyDebounced A))) scans
 
 -- bit P as read after master clocks
 abbrev pub phaseRead : Device → ℕ → ℕ

@@ -1,9 +1,8 @@
 pub mod Record
 pub mod PowerUp
 pub mod Sound
-pub mod Registers
 pub mod Words
 pub mod Steps
 pub mod Soundness
-pub mod Examples
 pub mod ShiftWord
+pub mod Examples

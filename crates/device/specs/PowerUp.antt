@@ -1,4 +1,4 @@
--- Document 01, "What the double covers": the power-up record, its values those of Table 15.
+-- Document 01, "What the double covers": the power-up record. Its values are Table 15's; a register that the table omits is 0.
 -- Assumes nothing.
 use mathlib.Core.List.{_++_}
 use Rattle.keys.specs.Keys.{released}
@@ -8,30 +8,32 @@ use Rattle.controls.specs.declared.Controls.{Controls}
 use Rattle.controls.specs.declared.Config.{Config}
 use Rattle.device.specs.declared.Device.{Device}
 
--- hexadecimal decode for all digits, 1/16, all 8 digits scanned, outputs low, no key scanning with all ports inputs, normal
--- operation, all digits 16-segment or 7-segment
+-- decode mode 0xFF, global intensity 1/16 (0), scan limit 7, GPIO data 0, port configuration 0x1F, display test 0, digit type 0
 abbrev pub controls : Controls
 controls = record { decode = 0xFF; global = 0; limit = 7; gpio = 0; ports = 0x1F; test = 0; types = 0 }
 
--- shutdown, slow, no blinking, global intensity
+-- control register: shutdown on, slow, blink disabled, global intensity
 abbrev pub config : Config
 config = record { i = 0; e = 0; b = 0; s = 0 }
 
--- digits 0 to 7 hold 0x20, 0a to 7a hold 0, in both planes
+-- digits 0 to 7 hold 0x20, digits 0a to 7a hold 0, in both planes
 abbrev pub planes : Planes
 planes = record { p0 = eight 0x20 ++ eight 0; p1 = eight 0x20 ++ eight 0 }
 
--- intensities 1/16; no key mask set, no key pressed or debounced; shift word, blink count and pins 0; fitted 255
+-- intensities 1/16 (0); no mask set, no key pressed or debounced; pins, blink count and shift word 0; fitted 255
 abbrev pub powerUp : Device
 powerUp =
     record {
-      controls = controls;
-      config = config;
-      intensities = eight 0;
-      keys = released;
-      planes = planes;
-      pins = 0;
-      blink = 0;
+      registers =
+          record {
+            controls = controls;
+            config = config;
+            intensities = eight 0;
+            keys = released;
+            planes = planes;
+            pins = 0;
+            blink = 0;
+          };
       shift = 0;
       fitted = 255;
     }

@@ -1,32 +1,31 @@
 -- Document 01, "What the double covers": the record of a driver, with one part of it replaced.
 -- Assumes nothing.
 use Prim.Native.Nat.{ℕ}
-use mathlib.Core.List.{List}
 use Rattle.keys.specs.declared.Keys.{Keys}
-use Rattle.digits.specs.declared.Planes.{Planes}
-use Rattle.controls.specs.declared.Controls.{Controls}
+use Rattle.registers.specs.Record.{withKeys as keysReplaced, withPins as pinsReplaced, withBlink as blinkReplaced}
+use Rattle.registers.specs.declared.Registers.{Registers}
 use Rattle.device.specs.declared.Device.{Device}
 
-abbrev pub withControls : Device → Controls → Device
-withControls x v = record { controls = v; config = x .config; intensities = x .intensities; keys = x .keys; planes = x .planes; pins = x .pins; blink = x .blink; shift = x .shift; fitted = x .fitted }
+-- all that registers hold
+abbrev pub withRegisters : Device → Registers → Device
+withRegisters d x = record { registers = x; shift = d .shift; fitted = d .fitted }
 
-abbrev pub withIntensities : Device → List ℕ → Device
-withIntensities x v = record { controls = x .controls; config = x .config; intensities = v; keys = x .keys; planes = x .planes; pins = x .pins; blink = x .blink; shift = x .shift; fitted = x .fitted }
-
+-- the key state
 abbrev pub withKeys : Device → Keys → Device
-withKeys x v = record { controls = x .controls; config = x .config; intensities = x .intensities; keys = v; planes = x .planes; pins = x .pins; blink = x .blink; shift = x .shift; fitted = x .fitted }
+withKeys d k = withRegisters d (keysReplaced (d .registers) k)
 
-abbrev pub withPlanes : Device → Planes → Device
-withPlanes x v = record { controls = x .controls; config = x .config; intensities = x .intensities; keys = x .keys; planes = v; pins = x .pins; blink = x .blink; shift = x .shift; fitted = x .fitted }
-
+-- the five pin levels
 abbrev pub withPins : Device → ℕ → Device
-withPins x v = record { controls = x .controls; config = x .config; intensities = x .intensities; keys = x .keys; planes = x .planes; pins = v; blink = x .blink; shift = x .shift; fitted = x .fitted }
+withPins d n = withRegisters d (pinsReplaced (d .registers) n)
 
+-- the blink count
 abbrev pub withBlink : Device → ℕ → Device
-withBlink x v = record { controls = x .controls; config = x .config; intensities = x .intensities; keys = x .keys; planes = x .planes; pins = x .pins; blink = v; shift = x .shift; fitted = x .fitted }
+withBlink d n = withRegisters d (blinkReplaced (d .registers) n)
 
+-- the 16-bit shift word
 abbrev pub withShift : Device → ℕ → Device
-withShift x v = record { controls = x .controls; config = x .config; intensities = x .intensities; keys = x .keys; planes = x .planes; pins = x .pins; blink = x .blink; shift = v; fitted = x .fitted }
+withShift d w = record { registers = d .registers; shift = w; fitted = d .fitted }
 
+-- the fitted byte
 abbrev pub withFitted : Device → ℕ → Device
-withFitted x v = record { controls = x .controls; config = x .config; intensities = x .intensities; keys = x .keys; planes = x .planes; pins = x .pins; blink = x .blink; shift = x .shift; fitted = v }
+withFitted d n = record { registers = d .registers; shift = d .shift; fitted = n }

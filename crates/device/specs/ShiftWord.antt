@@ -5,7 +5,7 @@ use mathlib.Core.Bool.{true, false}
 use mathlib.Core.Path.{_≡_}
 use Rattle.words.specs.Choice.{bit}
 use Rattle.words.specs.Words.{readAt}
-use Rattle.device.specs.Registers.{dataOf}
+use Rattle.registers.specs.Registers.{dataOf}
 use Rattle.device.specs.Words.{answerWord, taken}
 use Rattle.device.specs.declared.Device.{Device}
 
@@ -14,4 +14,4 @@ pub record ShiftWord : Type 0 where
   pub after-write : (d : Device) (w : ℕ) → bit 15 w ≡ false → taken d w .shift ≡ w
   -- after a read D7 to D0 are the data that the register had before, D15 to D8 stay
   pub after-read : (d : Device) (w : ℕ) → bit 15 w ≡ true
-      → taken d w .shift ≡ answerWord w (dataOf d (readAt (w / 256 % 128)))
+      → taken d w .shift ≡ answerWord w (dataOf (d .registers) (readAt (w / 256 % 128)))

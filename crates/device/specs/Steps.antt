@@ -10,12 +10,12 @@ use Rattle.device.specs.declared.Device.{Device}
 
 -- a scan of groups A to D, under the driver's port configuration
 abbrev pub scanned : Device → ℕ → ℕ → ℕ → ℕ → Device
-scanned x a b c d = withKeys x (scannedKeys (x .keys) (x .controls .ports) a b c d)
+scanned x a b c d = withKeys x (scannedKeys (x .registers .keys) (x .registers .controls .ports) a b c d)
 
 -- master clocks given, never the bus clocks of an access
 abbrev pub clocked : Device → ℕ → Device
-clocked d clocks = withBlink d (advanced (d .blink) clocks)
+clocked d clocks = withBlink d (advanced (d .registers .blink) clocks)
 
 -- the plane shown: P0 when E=0, otherwise that of the phase
 abbrev pub shownPlane : Device → Plane
-shownPlane d = shownAt (d .blink) (odd (d .config .b)) (odd (d .config .e))
+shownPlane d = shownAt (d .registers .blink) (odd (d .registers .config .b)) (odd (d .registers .config .e))

@@ -5,8 +5,8 @@ use Rattle.words.specs.Words.{wordOf}
 use Rattle.words.specs.declared.Register.{Register}
 use Rattle.words.specs.declared.Word.{Word}
 use Rattle.words.specs.declared.Word.the-variants.{Write, Read}
-use Rattle.device.specs.Record.{withShift}
-use Rattle.device.specs.Registers.{written, dataOf, afterRead}
+use Rattle.registers.specs.Registers.{written, dataOf, afterRead}
+use Rattle.device.specs.Record.{withRegisters, withShift}
 use Rattle.device.specs.declared.Device.{Device}
 
 -- D7 to D0 of a shift word replaced, D15 to D8 stay
@@ -15,11 +15,12 @@ answerWord shift v = shift / 256 * 256 + v
 
 -- after a read, D7 to D0 of the shift word become the register's data
 abbrev pub answered : Device → Register → Device
-answered d r = withShift (afterRead d r) (answerWord (d .shift) (dataOf d r))
+answered d r =
+    withShift (withRegisters d (afterRead (d .registers) r)) (answerWord (d .shift) (dataOf (d .registers) r))
 
--- a driver whose shift word is the word obeys it; after a write the shift word stays as clocked
+-- a driver obeys its shift word; after a write the shift word stays as clocked
 abbrev pub obeyed : Device → Word → Device
-obeyed d (Write r v) = written d r v
+obeyed d (Write r v) = withRegisters d (written (d .registers) r v)
 obeyed d (Read r) = answered d r
 
 -- a driver takes its word

@@ -9,6 +9,9 @@ read-requires c κs = search needs
 read-data-requires : tie.Need-read-data-requires
 read-data-requires c κs = search needs
 
+with-registers-requires : tie.Need-with-registers-requires
+with-registers-requires c κs = search needs
+
 answer-word-requires : tie.Need-answer-word-requires
 answer-word-requires c κs = search needs
 
@@ -16,9 +19,15 @@ with-shift-requires : tie.Need-with-shift-requires
 with-shift-requires c κs = search needs
 
 returns : tie.Need-returns
-returns c = simp (c .before .before .before .read .ensures, c .before .before .read-data .ensures, c .before .answer-word .ensures, c .with-shift .ensures)
+returns c = simp (c .before .before .before .before .read .ensures, c .before .before .before .read-data .ensures, c .before .before .with-registers .ensures, c .before .answer-word .ensures, c .with-shift .ensures)
 
 pub answered-spec : {M : Type 1} → statement M
 answered-spec =
     tie.close
-    (tie.spec read-requires read-data-requires answer-word-requires with-shift-requires returns)
+    (tie.spec
+    read-requires
+    read-data-requires
+    with-registers-requires
+    answer-word-requires
+    with-shift-requires
+    returns)

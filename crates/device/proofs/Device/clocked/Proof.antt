@@ -7,7 +7,7 @@ advanced-requires : tie.Need-advanced-requires
 advanced-requires c κs = search needs
 
 returns : tie.Need-returns
-returns c = simp (c .advanced .ensures)
+returns c = simp (c .before .advanced .ensures)
 
 pub clocked-spec : {M : Type 1} → statement M
 clocked-spec = tie.close (tie.spec advanced-requires returns)

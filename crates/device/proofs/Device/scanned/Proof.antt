@@ -6,11 +6,11 @@ use Rattle.device.proofs.Device.scanned.Tie as tie
 scanned-requires : tie.Need-scanned-requires
 scanned-requires c κs = search needs
 
-with-keys-requires : tie.Need-with-keys-requires
-with-keys-requires c κs = search needs
+with-registers-requires : tie.Need-with-registers-requires
+with-registers-requires c κs = search needs
 
 returns : tie.Need-returns
-returns c = simp (c .before .scanned .ensures, c .with-keys .ensures)
+returns c = simp (c .before .scanned .ensures, c .with-registers .ensures)
 
 pub scanned-spec : {M : Type 1} → statement M
-scanned-spec = tie.close (tie.spec scanned-requires with-keys-requires returns)
+scanned-spec = tie.close (tie.spec scanned-requires with-registers-requires returns)

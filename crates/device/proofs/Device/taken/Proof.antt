@@ -16,6 +16,9 @@ enum-known-register c = search needs
 written-requires : tie.Need-written-requires
 written-requires c κs = search needs
 
+with-registers-requires : tie.Need-with-registers-requires
+with-registers-requires c κs = search needs
+
 enum-known-register-2 : tie.Need-enum-known-register-2
 enum-known-register-2 c = search needs
 
@@ -24,11 +27,11 @@ answered-requires c κs = search needs
 
 returns : tie.Need-returns
 unfolding taken
-returns c = simp (c .before .before .before .before .before .with-shift .ensures, ← c .before .before .before .before .decode .ensures, c .before .before .register .given .1, c .written .ensures)
+returns c = simp (c .before .before .before .before .before .before .before .with-shift .ensures, ← c .before .before .before .before .before .decode .ensures, c .before .before .before .register .given .1, c .before .written .ensures, c .with-registers .ensures)
 
 returns-2 : tie.Need-returns-2
 unfolding taken
-returns-2 c = simp (c .before .before .before .before .before .with-shift .ensures, ← c .before .before .before .before .decode .ensures, c .before .before .register2 .given .1, c .answered .ensures)
+returns-2 c = simp (c .before .before .before .before .before .before .with-shift .ensures, ← c .before .before .before .before .decode .ensures, c .before .before .register2 .given .1, c .answered .ensures)
 
 pub taken-spec : {M : Type 1} → statement M
 taken-spec =
@@ -38,6 +41,7 @@ taken-spec =
     decode-requires
     enum-known-register
     written-requires
+    with-registers-requires
     enum-known-register-2
     answered-requires
     returns

@@ -1,7 +1,7 @@
--- `device::Device::read` meets its contract. Assumes nothing.
+-- `registers::Registers::read` meets its contract. Assumes nothing.
 use borrow.Author.Needs.{needs}
-use Rattle.device.proofs.Device.read.Statement.{statement}
-use Rattle.device.proofs.Device.read.Tie as tie
+use Rattle.registers.proofs.Registers.read.Statement.{statement}
+use Rattle.registers.proofs.Registers.read.Tie as tie
 
 enum-told : tie.Need-enum-told
 enum-told c = search needs

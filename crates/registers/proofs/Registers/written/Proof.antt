@@ -1,7 +1,7 @@
--- `device::Device::written` meets its contract. Assumes nothing.
+-- `registers::Registers::written` meets its contract. Assumes nothing.
 use borrow.Author.Needs.{needs}
-use Rattle.device.proofs.Device.written.Statement.{statement}
-use Rattle.device.proofs.Device.written.Tie as tie
+use Rattle.registers.proofs.Registers.written.Statement.{statement}
+use Rattle.registers.proofs.Registers.written.Tie as tie
 
 enum-told : tie.Need-enum-told
 enum-told c = search needs

@@ -1,7 +1,7 @@
--- `device::Device::read_data` meets its contract. Assumes nothing.
+-- `registers::Registers::read_data` meets its contract. Assumes nothing.
 use borrow.Author.Needs.{needs}
-use Rattle.device.proofs.Device.read_data.Statement.{statement}
-use Rattle.device.proofs.Device.read_data.Tie as tie
+use Rattle.registers.proofs.Registers.read_data.Statement.{statement}
+use Rattle.registers.proofs.Registers.read_data.Tie as tie
 
 enum-told : tie.Need-enum-told
 enum-told c = search needs

@@ -1,7 +1,7 @@
--- `device::Device::configured` meets its contract. Assumes nothing.
+-- `registers::Registers::configured` meets its contract. Assumes nothing.
 use borrow.Author.Needs.{needs}
-use Rattle.device.proofs.Device.configured.Statement.{statement}
-use Rattle.device.proofs.Device.configured.Tie as tie
+use Rattle.registers.proofs.Registers.configured.Statement.{statement}
+use Rattle.registers.proofs.Registers.configured.Tie as tie
 
 of-requires : tie.Need-of-requires
 of-requires c κs = search needs

@@ -1,7 +1,7 @@
--- `device::Device::sound` meets its contract. Assumes nothing.
+-- `registers::Registers::sound` meets its contract. Assumes nothing.
 use borrow.Author.Needs.{needs}
-use Rattle.device.proofs.Device.sound.Statement.{statement}
-use Rattle.device.proofs.Device.sound.Tie as tie
+use Rattle.registers.proofs.Registers.sound.Statement.{statement}
+use Rattle.registers.proofs.Registers.sound.Tie as tie
 
 sound-requires : tie.Need-sound-requires
 sound-requires c κs = search needs

@@ -1,8 +1,8 @@
 // The control registers of a MAX6954, and the bits of its configuration register.
 ghost use mathlib.Core.Path.{_≡_};
 ghost use Prim.Native.Nat.{_≤_};
-ghost use Rattle.controls.specs.Controls.{controlWritten, controlData, soundControls};
-ghost use Rattle.controls.specs.Config.{configOf, phaseBit, configData, soundConfig};
+ghost use Rattle.controls.specs.Controls.{controlWritten, controlData};
+ghost use Rattle.controls.specs.Config.{configOf, phaseBit, configData};
 use words::ControlRegister;
 use words::Plane;
 
@@ -74,13 +74,6 @@ impl Controls {
             ControlRegister::DigitType => 0,
         }
     }
-
-    // Whether each register fits its width.
-    pub fn sound(self) -> bool
-        ensures { λ r. ⌜ r ≡ soundControls self ⌝ }
-    {
-        (self.global < 16) & (self.limit < 8) & (self.gpio < 32) & (self.test < 2)
-    }
 }
 
 // The stored bits of the configuration register, 0 or 1 each in a sound record.
@@ -114,13 +107,6 @@ impl Config {
         ensures { λ r. ⌜ r ≡ configData self phase ⌝ }
     {
         phase_bit(phase) * 128 + self.i % 2 * 64 + self.e % 2 * 8 + self.b % 2 * 4 + self.s % 2
-    }
-
-    // Whether each is one bit.
-    pub fn sound(self) -> bool
-        ensures { λ r. ⌜ r ≡ soundConfig self ⌝ }
-    {
-        (self.i < 2) & (self.e < 2) & (self.b < 2) & (self.s < 2)
     }
 }
 

@@ -156,8 +156,12 @@ impl Device {
     pub fn sound(self) -> bool
         ensures { λ r. ⌜ r ≡ soundOf self ⌝ }
     {
-        let registers = self.registers;
-        registers.sound()
+        let x = self.registers;
+        let c = x.controls;
+        let controls = (c.global < 16) & (c.limit < 8) & (c.gpio < 32) & (c.test < 2);
+        let f = x.config;
+        let config = (f.i < 2) & (f.e < 2) & (f.b < 2) & (f.s < 2);
+        controls & config & (x.keys.interrupt < 2) & (x.pins < 32) & (x.blink < 4000000)
     }
 }
 

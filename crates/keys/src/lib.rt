@@ -1,6 +1,6 @@
 // The keys of a MAX6954: four groups of eight, scanned into debounced registers with an interrupt.
 ghost use mathlib.Core.Path.{_≡_};
-ghost use Rattle.keys.specs.Keys.{groupOf, withGroup, newly, scannedGroup, raises, groupsOf, closedOf, maskWritten, debouncedRead, scannedKeys, soundKeys};
+ghost use Rattle.keys.specs.Keys.{groupOf, withGroup, newly, scannedGroup, raises, groupsOf, closedOf, maskWritten, debouncedRead, scannedKeys};
 ghost use Rattle.words.specs.Choice.{if};
 ghost use Rattle.keys.specs.KeyByKey.{KeyByKey};
 use words::KeyGroup;
@@ -69,7 +69,7 @@ impl Keys {
         interrupt: 0,
     };
 
-    fn group(self, group: KeyGroup) -> Group
+    pub fn group(self, group: KeyGroup) -> Group
         ensures { λ r. ⌜ r ≡ groupOf self group ⌝ }
     {
         let a = self.a;
@@ -116,22 +116,6 @@ impl Keys {
         self.with_group(group, new)
     }
 
-    // A debounced register.
-    pub fn debounced(self, group: KeyGroup) -> u8
-        ensures { λ r. ⌜ r ≡ groupOf self group .debounced ⌝ }
-    {
-        let g = self.group(group);
-        g.debounced
-    }
-
-    // A pressed register.
-    pub fn pressed(self, group: KeyGroup) -> u8
-        ensures { λ r. ⌜ r ≡ groupOf self group .pressed ⌝ }
-    {
-        let g = self.group(group);
-        g.pressed
-    }
-
     // What a read of a debounced register leaves: it and the interrupt are cleared.
     pub fn read(mut self, group: KeyGroup) -> Keys
         ensures { λ r. ⌜ r ≡ debouncedRead self group ⌝ }
@@ -140,13 +124,6 @@ impl Keys {
         new.debounced = 0;
         self.interrupt = 0;
         self.with_group(group, new)
-    }
-
-    // Whether the interrupt is one bit.
-    pub fn sound(self) -> bool
-        ensures { λ r. ⌜ r ≡ soundKeys self ⌝ }
-    {
-        self.interrupt < 2
     }
 
     // A scan: the closed keys of groups A to D, and the port configuration.

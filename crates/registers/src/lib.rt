@@ -2,7 +2,6 @@
 ghost use mathlib.Core.Path.{_≡_};
 ghost use Rattle.registers.specs.Record.{withControls, withIntensities, withKeys, withPlanes};
 ghost use Rattle.registers.specs.Registers.{configured, written, phaseOf, levelsOf, dataOf, afterRead};
-ghost use Rattle.registers.specs.Sound.{soundRegisters};
 use controls::Config;
 use controls::Controls;
 use digits::Planes;
@@ -125,8 +124,14 @@ impl Registers {
             Register::Control(control) => controls.read_data(control, self.levels()),
             Register::Configuration => config.read_data(self.phase()),
             Register::KeyMask(_) => 0,
-            Register::KeyDebounced(group) => keys.debounced(group),
-            Register::KeyPressed(group) => keys.pressed(group),
+            Register::KeyDebounced(group) => {
+                let g = keys.group(group);
+                g.debounced
+            }
+            Register::KeyPressed(group) => {
+                let g = keys.group(group);
+                g.pressed
+            }
             Register::Intensity(j) => digits::intensity(intensities, j),
             Register::Digit(plane, digit) => planes.digit(plane, digit),
             Register::BothPlanes(_) => 0,
@@ -151,15 +156,5 @@ impl Registers {
             Register::BothPlanes(_) => self,
             Register::Unlisted => self,
         }
-    }
-
-    // Whether every field fits its register's width and the blink count is below 4,000,000.
-    pub fn sound(self) -> bool
-        ensures { λ r. ⌜ r ≡ soundRegisters self ⌝ }
-    {
-        let controls = self.controls;
-        let config = self.config;
-        let keys = self.keys;
-        controls.sound() & config.sound() & keys.sound() & (self.pins < 32) & (self.blink < 4000000)
     }
 }

@@ -30,14 +30,14 @@ enum-told-3 c = search needs
 enum-known-register-2 : tie.Need-enum-known-register-2
 enum-known-register-2 c = search needs
 
-debounced-requires : tie.Need-debounced-requires
-debounced-requires c κs = search needs
+group-requires : tie.Need-group-requires
+group-requires c κs = search needs
 
 enum-known-register-3 : tie.Need-enum-known-register-3
 enum-known-register-3 c = search needs
 
-pressed-requires : tie.Need-pressed-requires
-pressed-requires c κs = search needs
+group-requires-2 : tie.Need-group-requires-2
+group-requires-2 c κs = search needs
 
 enum-known-register-4 : tie.Need-enum-known-register-4
 enum-known-register-4 c = search needs
@@ -70,10 +70,10 @@ returns-4 : tie.Need-returns-4
 returns-4 c = simp (c .enum-told3 .given .1)
 
 returns-5 : tie.Need-returns-5
-returns-5 c = simp (c .before .before .register2 .given .1, c .debounced .ensures)
+returns-5 c = simp (c .before .before .register2 .given .1, c .group .ensures)
 
 returns-6 : tie.Need-returns-6
-returns-6 c = simp (c .before .before .register3 .given .1, c .pressed .ensures)
+returns-6 c = simp (c .before .before .register3 .given .1, c .group2 .ensures)
 
 returns-7 : tie.Need-returns-7
 returns-7 c = simp (c .before .before .register4 .given .1, c .intensity .ensures)
@@ -100,9 +100,9 @@ read-data-spec =
     read-data-requires-2
     enum-told-3
     enum-known-register-2
-    debounced-requires
+    group-requires
     enum-known-register-3
-    pressed-requires
+    group-requires-2
     enum-known-register-4
     intensity-requires
     enum-known-register-5

@@ -12,29 +12,33 @@ use lib.Bits.{bitAnd, bitOr, and-shr, and-mod, or-shr, or-mod}
 use borrow.Author.Tests.{eq-eqb, ne-eqb}
 use Rattle.words.specs.Choice.{bit, some}
 
-and-digit : (x y : ℕ) → x < 2 → y < 2 → eqb (bitAnd x y) 1 ≡ (eqb x 1 && eqb y 1)
-and-digit zero y p q = refl
-and-digit (suc zero) zero p q = refl
-and-digit (suc zero) (suc zero) p q = refl
-and-digit (suc zero) (suc (suc y)) p q = absurd (omega arith)
-and-digit (suc (suc x)) y p q = absurd (omega arith)
+-- an operation on numbers that goes bit by bit, and the one on truth values that it is at each bit
+module _ (f : ℕ → ℕ → ℕ) (g : Bool → Bool → Bool)
+    (at-00 : eqb (f 0 0) 1 ≡ g false false)
+    (at-01 : eqb (f 0 1) 1 ≡ g false true)
+    (at-10 : eqb (f 1 0) 1 ≡ g true false)
+    (at-11 : eqb (f 1 1) 1 ≡ g true true)
+    (shr : (a b k : ℕ) → f a b / 2 ^ k ≡ f (a / 2 ^ k) (b / 2 ^ k))
+    (low : (a b k : ℕ) → f a b % 2 ^ k ≡ f (a % 2 ^ k) (b % 2 ^ k)) where
+  digitwise : (x y : ℕ) → x < 2 → y < 2 → eqb (f x y) 1 ≡ g (eqb x 1) (eqb y 1)
+  digitwise zero zero p q = at-00
+  digitwise zero (suc zero) p q = at-01
+  digitwise (suc zero) zero p q = at-10
+  digitwise (suc zero) (suc zero) p q = at-11
+  digitwise zero (suc (suc y)) p q = absurd (omega arith)
+  digitwise (suc zero) (suc (suc y)) p q = absurd (omega arith)
+  digitwise (suc (suc x)) y p q = absurd (omega arith)
 
-or-digit : (x y : ℕ) → x < 2 → y < 2 → eqb (bitOr x y) 1 ≡ (eqb x 1 || eqb y 1)
-or-digit zero y p q = refl
-or-digit (suc zero) zero p q = refl
-or-digit (suc zero) (suc zero) p q = refl
-or-digit (suc zero) (suc (suc y)) p q = absurd (omega arith)
-or-digit (suc (suc x)) y p q = absurd (omega arith)
+  bitwise : (k a b : ℕ) → bit k (f a b) ≡ g (bit k a) (bit k b)
+  bitwise k a b =
+      ap (λ (x : ℕ). eqb x 1) (ap (λ (x : ℕ). x % 2) (shr a b k) ∙ low (a / 2 ^ k) (b / 2 ^ k) 1)
+      ∙ digitwise (a / 2 ^ k % 2) (b / 2 ^ k % 2) (mod-lt (a / 2 ^ k) (zero-lt-suc 1)) (mod-lt (b / 2 ^ k) (zero-lt-suc 1))
 
 pub and-bit : (k a b : ℕ) → bit k (bitAnd a b) ≡ (bit k a && bit k b)
-and-bit k a b =
-    ap (λ (x : ℕ). eqb x 1) (ap (λ (x : ℕ). x % 2) (and-shr a b k) ∙ and-mod (a / 2 ^ k) (b / 2 ^ k) 1)
-    ∙ and-digit (a / 2 ^ k % 2) (b / 2 ^ k % 2) (mod-lt (a / 2 ^ k) (zero-lt-suc 1)) (mod-lt (b / 2 ^ k) (zero-lt-suc 1))
+and-bit = bitwise bitAnd _&&_ refl refl refl refl and-shr and-mod
 
 pub or-bit : (k a b : ℕ) → bit k (bitOr a b) ≡ (bit k a || bit k b)
-or-bit k a b =
-    ap (λ (x : ℕ). eqb x 1) (ap (λ (x : ℕ). x % 2) (or-shr a b k) ∙ or-mod (a / 2 ^ k) (b / 2 ^ k) 1)
-    ∙ or-digit (a / 2 ^ k % 2) (b / 2 ^ k % 2) (mod-lt (a / 2 ^ k) (zero-lt-suc 1)) (mod-lt (b / 2 ^ k) (zero-lt-suc 1))
+or-bit = bitwise bitOr _||_ refl refl refl refl or-shr or-mod
 
 -- bit k + 1 of a number is bit k of its half
 pub next-bit : (k n : ℕ) → bit (suc k) n ≡ bit k (n / 2)

@@ -14,8 +14,8 @@ use Rattle.words.specs.declared.Word.{Word}
 use Rattle.words.specs.declared.Word.the-variants.{Write, Read}
 
 -- 0x00 to 0x07, in order: alike written and read
-abbrev pub low : List Register
-low =
+abbrev pub lowAlike : List Register
+lowAlike =
     NoOp
     ∷ Control DecodeMode
     ∷ Control GlobalIntensity
@@ -27,13 +27,13 @@ low =
     ∷ []
 
 -- 0x08 to 0x0F as written, in order: key masks A to D, digit type; writes to 0x0D..0x0F do nothing
-abbrev pub written : List Register
-written =
+abbrev pub lowWritten : List Register
+lowWritten =
     KeyMask A ∷ KeyMask B ∷ KeyMask C ∷ KeyMask D ∷ Control DigitType ∷ Unlisted ∷ Unlisted ∷ Unlisted ∷ []
 
 -- 0x08 to 0x0F as read, in order: debounced keys A to D, pressed keys A to D
-abbrev pub read : List Register
-read =
+abbrev pub lowRead : List Register
+lowRead =
     KeyDebounced A
     ∷ KeyDebounced B
     ∷ KeyDebounced C
@@ -52,15 +52,15 @@ highRegister row column =
 
 -- an address other than 0x08 to 0x0F
 abbrev pub alikeAt : ℕ → Register
-alikeAt a = if (ltb a 8) (getD low a NoOp) (highRegister (a / 16) (a % 16))
+alikeAt a = if (ltb a 8) (getD lowAlike a NoOp) (highRegister (a / 16) (a % 16))
 
 -- the register that a write to an address reaches
 abbrev pub writtenAt : ℕ → Register
-writtenAt a = if (eqb (a / 8) 1) (getD written (a % 8) NoOp) (alikeAt a)
+writtenAt a = if (eqb (a / 8) 1) (getD lowWritten (a % 8) NoOp) (alikeAt a)
 
 -- the register that a read of an address reaches
 abbrev pub readAt : ℕ → Register
-readAt a = if (eqb (a / 8) 1) (getD read (a % 8) NoOp) (alikeAt a)
+readAt a = if (eqb (a / 8) 1) (getD lowRead (a % 8) NoOp) (alikeAt a)
 
 -- bit D15 is 1 for a read, D14 to D8 the address, D7 to D0 the data
 abbrev pub wordOf : ℕ → Word

@@ -3,10 +3,6 @@
 use Prim.Native.Nat.{ℕ, _/_, _%_}
 use mathlib.Core.List.{List, [], _∷_, map}
 use mathlib.Core.Path.{_≡_}
-use Rattle.words.specs.declared.KeyGroup.the-variants.{A}
-use Rattle.words.specs.declared.Register.the-variants.{KeyDebounced}
-use Rattle.registers.specs.Registers.{dataOf, afterRead}
-use Rattle.device.specs.Record.{withRegisters}
 use Rattle.device.specs.PowerUp.{powerUp}
 use Rattle.device.specs.Words.{taken}
 use Rattle.device.specs.Steps.{scanned, clocked}
@@ -17,14 +13,13 @@ abbrev pub answers : Device → List ℕ → List ℕ
 answers d [] = []
 answers d (w ∷ ws) = d .shift ∷ answers (taken d w) ws
 
--- the debounced keys of group A as read after each scan of that group
+-- the debounced keys of group A as the word 8800 reads them after each scan of that group
 abbrev pub reports : Device → List ℕ → List ℕ
 reports d [] = []
 reports d (keys ∷ scans) =
-    dataOf (scanned d keys 0 0 0 .registers) (KeyDebounced A)
-    ∷ reports (withRegisters d (afterRead (scanned d keys 0 0 0 .registers) (KeyDebounced A))) scans
+    taken (scanned d keys 0 0 0) 0x8800 .shift % 256 ∷ reports (taken (scanned d keys 0 0 0) 0x8800) scans
 
--- bit P as read after master clocks
+-- bit P as the word 8400 reads it after master clocks
 abbrev pub phaseRead : Device → ℕ → ℕ
 phaseRead d clocks = taken (clocked d clocks) 0x8400 .shift / 128 % 2
 

@@ -128,20 +128,21 @@ impl Device {
     }
 
     // Pin levels given.
-    pub fn with_pins(mut self, levels: u32) -> Device
+    pub fn with_pins(self, levels: u32) -> Device
         ensures { λ r. ⌜ r ≡ withPins self levels ⌝ }
     {
-        self.registers.pins = levels;
-        self
+        let mut registers = self.registers;
+        registers.pins = levels;
+        self.with_registers(registers)
     }
 
     // Master clocks given.
-    pub fn clocked(mut self, clocks: u32) -> Device
+    pub fn clocked(self, clocks: u32) -> Device
         ensures { λ r. ⌜ r ≡ clocked self clocks ⌝ }
     {
-        let blink = blink::advanced(self.registers.blink, clocks);
-        self.registers.blink = blink;
-        self
+        let mut registers = self.registers;
+        registers.blink = blink::advanced(registers.blink, clocks);
+        self.with_registers(registers)
     }
 
     // The plane shown.

@@ -3,8 +3,9 @@
 use Prim.Native.Nat.{ℕ, _<_}
 use mathlib.Core.Bool.{not, _&&_, _||_}
 use mathlib.Core.Path.{_≡_}
+use lib.Dec.{ltb}
 use Rattle.words.specs.Choice.{bit, some}
-use Rattle.keys.specs.Keys.{newly, scannedGroup, raises}
+use Rattle.keys.specs.Keys.{groupsOf, closedOf, newly, scannedGroup, raises}
 use Rattle.keys.specs.declared.Group.{Group}
 
 -- key k of a group that is scanned with the keys `closed`
@@ -19,6 +20,8 @@ pub record KeyScanned (g : Group) (closed k : ℕ) : Type 0 where
   pub held : bit k (scannedGroup g closed .held) ≡ (bit k closed && (bit k (g .held) || bit k (newly g closed)))
 
 pub record KeyByKey : Type 0 where
+  -- a key counts as closed where it is and its group is configured
+  pub closed : (ports group keys k : ℕ) → bit k (closedOf ports group keys) ≡ (ltb group (groupsOf ports) && bit k keys)
   pub scanned : (g : Group) (closed k : ℕ) → k < 8 → g .held < 256 → KeyScanned g closed k
   -- the interrupt: some key is newly debounced and has its mask bit set
   pub raised : (g : Group) (closed : ℕ) → closed < 256 → raises g closed ≡ some 8 (λ k. bit k (newly g closed) && bit k (g .mask))

@@ -13,7 +13,7 @@ use Rattle.words.proofs.Below.{all, all-at}
 use Rattle.words.proofs.Truth.{same}
 use Rattle.words.proofs.Bits.{and-bit, or-bit, not-bit, low-bit}
 use Rattle.keys.specs.Keys.{groupsOf}
-use Rattle.ports.specs.Ports.{freePorts, levels, irqLevel, portData}
+use Rattle.ports.specs.Ports.{freePorts, levels, irqLevel}
 use Rattle.ports.specs.PortByPort.{portLevel, PortByPort}
 
 -- port p is P4 as the interrupt

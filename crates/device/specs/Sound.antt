@@ -5,5 +5,6 @@ use mathlib.Core.Bool.{Bool}
 use Rattle.registers.specs.Sound.{soundRegisters}
 use Rattle.device.specs.declared.Device.{Device}
 
+-- all that registers hold is sound
 abbrev pub soundOf : Device → Bool
 soundOf d = soundRegisters (d .registers)

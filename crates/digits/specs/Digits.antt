@@ -8,6 +8,7 @@ use Rattle.words.specs.declared.Plane.{Plane}
 use Rattle.words.specs.declared.Plane.the-variants.{P0, P1}
 use Rattle.digits.specs.declared.Planes.{Planes}
 
+-- the sixteen digits of a plane
 abbrev pub planeOf : Planes → Plane → List ℕ
 planeOf x P0 = x .p0
 planeOf x P1 = x .p1
@@ -21,6 +22,7 @@ digitWritten x P1 i v = record { p0 = x .p0; p1 = set (x .p1) i v }
 abbrev pub bothWritten : Planes → ℕ → ℕ → Planes
 bothWritten x i v = digitWritten (digitWritten x P0 i v) P1 i v
 
+-- eight digits or registers that hold the same
 abbrev pub eight : ℕ → List ℕ
 eight x = x ∷ x ∷ x ∷ x ∷ x ∷ x ∷ x ∷ x ∷ []
 

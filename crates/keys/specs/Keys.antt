@@ -14,21 +14,25 @@ use Rattle.keys.specs.declared.Keys.{Keys}
 abbrev pub none : Group
 none = record { mask = 0; debounced = 0; pressed = 0; held = 0 }
 
+-- all four groups, and no interrupt
 abbrev pub released : Keys
 released = record { a = none; b = none; c = none; d = none; interrupt = 0 }
 
+-- the registers of one group of eight keys
 abbrev pub groupOf : Keys → KeyGroup → Group
 groupOf k A = k .a
 groupOf k B = k .b
 groupOf k C = k .c
 groupOf k D = k .d
 
+-- one group replaced
 abbrev pub withGroup : Keys → KeyGroup → Group → Keys
 withGroup k A g = record { a = g; b = k .b; c = k .c; d = k .d; interrupt = k .interrupt }
 withGroup k B g = record { a = k .a; b = g; c = k .c; d = k .d; interrupt = k .interrupt }
 withGroup k C g = record { a = k .a; b = k .b; c = g; d = k .d; interrupt = k .interrupt }
 withGroup k D g = record { a = k .a; b = k .b; c = k .c; d = g; interrupt = k .interrupt }
 
+-- the interrupt replaced
 abbrev pub withInterrupt : Keys → ℕ → Keys
 withInterrupt k v = record { a = k .a; b = k .b; c = k .c; d = k .d; interrupt = v }
 

@@ -4,6 +4,7 @@ use Prim.Native.Nat.{ℕ, zero, suc, _/_, _%_, _^_}
 use mathlib.Core.Bool.{Bool, true, false, _||_}
 use lib.Dec.{eqb}
 
+-- a where the test holds, else b
 abbrev pub if : {A : Type 0} → Bool → A → A → A
 if true a b = a
 if false a b = b

@@ -7,9 +7,9 @@ use mathlib.Core.Bool.{Bool, true, false, _&&_}
 use mathlib.Core.Path.{_≡_, refl, _∙_}
 use lib.Dec.{ltb}
 use lib.Bits.{bitAnd, and-le-l}
-use Rattle.words.specs.Choice.{if, bit}
+use Rattle.words.specs.Choice.{if, bit, some}
 use Rattle.words.proofs.Bits.{and-bit, or-bit, not-bit, some-bit}
-use Rattle.keys.specs.Keys.{groupsOf, closedOf, newly}
+use Rattle.keys.specs.Keys.{groupsOf, closedOf, newly, raises}
 use Rattle.keys.specs.KeyByKey.{KeyScanned, KeyByKey}
 use Rattle.keys.specs.declared.Group.{Group}
 
@@ -28,10 +28,11 @@ closed-key ports group keys k = go (ltb group (groupsOf ports)) where
   go true = refl
   go false = rw zero-div
 
+raised-key : (g : Group) (closed : ℕ) → closed < 256 → raises g closed ≡ some 8 (λ k. bit k (newly g closed) && bit k (g .mask))
+raised-key g closed h =
+    some-bit 8 (bitAnd (newly g closed) (g .mask))
+    (omega (arith, and-le-l (newly g closed) (g .mask), and-le-l (bitAnd closed (g .pressed)) (255 - g .held), and-le-l closed (g .pressed)))
+    ∙ simp and-bit
+
 pub key-by-key : KeyByKey
-key-by-key =
-    record {
-      closed = closed-key;
-      scanned = key-scanned;
-      raised = λ g closed h. some-bit 8 (bitAnd (newly g closed) (g .mask)) (omega (arith, and-le-l (newly g closed) (g .mask), and-le-l (bitAnd closed (g .pressed)) (255 - g .held), and-le-l closed (g .pressed))) ∙ simp and-bit;
-    }
+key-by-key = record { closed = closed-key; scanned = key-scanned; raised = raised-key }

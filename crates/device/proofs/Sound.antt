@@ -37,6 +37,8 @@ pub soundness : Soundness
 soundness =
     record {
       at-power-up = λ fitted. refl;
+      after-write = λ d r v e. write-sound (d .registers) r v e;
+      after-read = λ d r e. after-sound (d .registers) r e;
       after-word = taken-sound;
       after-scan = scan-sound;
       after-pins = λ d levels h e. pins-sound (d .registers) levels (lt-ltb levels 32 h) e;

@@ -1,7 +1,7 @@
 -- The bits of numbers: of `and`, `or` and complement, at every place and over every width.
 -- Assumes nothing.
 use Prim.Native.Nat.{ℕ, zero, suc, _+_, _-_, _/_, _%_, _^_, _<_}
-use native.Mathlib.Nat.{mod-lt, zero-lt-suc, pow-suc, pow-succ', div-div-eq-div-mul, div-one}
+use native.Mathlib.Nat.{add-zero, add-suc, mod-lt, zero-lt-suc, pow-suc, pow-succ', div-div-eq-div-mul, div-one}
 use native.Mathlib.Omega.{arith}
 use mathlib.Core.Bool.{Bool, true, false, not, _&&_, _||_}
 use mathlib.Core.Path.{_≡_, refl, ap, _∙_}
@@ -43,6 +43,13 @@ or-bit = bitwise bitOr _||_ refl refl refl refl or-shr or-mod
 -- bit k + 1 of a number is bit k of its half
 pub next-bit : (k n : ℕ) → bit (suc k) n ≡ bit k (n / 2)
 next-bit k n = rw (pow-succ', div-div-eq-div-mul)
+
+-- bit k + w of a number is bit k of what stands above its last w bits
+pub high-bit : (w k n : ℕ) → bit (k + w) n ≡ bit k (n / 2 ^ w)
+high-bit zero k n = rw (add-zero, div-one)
+high-bit (suc w) k n =
+    let e : n / 2 / 2 ^ w ≡ n / 2 ^ suc w = rw (pow-succ', div-div-eq-div-mul) in
+    rw (add-suc, next-bit) (high-bit w k (n / 2) ∙ ap (bit k) e)
 
 -- the half of a number's last w + 1 bits, and its last bit
 half-low : (w n : ℕ) → (n % 2 ^ suc w) / 2 ≡ n / 2 % 2 ^ w

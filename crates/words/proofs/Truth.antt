@@ -2,9 +2,8 @@
 -- Assumes nothing.
 use Prim.Native.Nat.{ℕ, suc, _%_}
 use native.Mathlib.Nat.{mod-lt, zero-lt-suc}
-use native.Mathlib.Omega.{arith}
-use mathlib.Core.Bool.{Bool, true, false, _&&_, Bool·beq}
-use mathlib.Core.Path.{_≡_, refl}
+use mathlib.Core.Bool.{Bool, true, false, _&&_, Bool·beq, true≢false}
+use mathlib.Core.Path.{_≡_, refl, sym}
 use lib.Dec.{ltb}
 use borrow.Author.Tests.{lt-ltb}
 use Rattle.words.specs.Choice.{if}
@@ -15,14 +14,14 @@ and-left false b e = e
 
 pub and-right : (a b : Bool) → (a && b) ≡ true → b ≡ true
 and-right true b e = e
-and-right false b e = absurd (let z : _≡_ {A = ℕ} 0 1 = cc in omega arith)
+and-right false b e = absurd (true≢false (sym e))
 
 -- two truth values that the test finds the same
 pub same : (a b : Bool) → Bool·beq a b ≡ true → a ≡ b
 same true true t = refl
 same false false t = refl
-same true false t = absurd (let z : _≡_ {A = ℕ} 0 1 = cc in omega arith)
-same false true t = absurd (let z : _≡_ {A = ℕ} 0 1 = cc in omega arith)
+same true false t = absurd (true≢false (sym t))
+same false true t = absurd (true≢false (sym t))
 
 -- a choice of two small numbers is small
 pub if-small : (b : Bool) (m n k : ℕ) → ltb m k ≡ true → ltb n k ≡ true → ltb (if b m n) k ≡ true

@@ -1,0 +1,31 @@
+-- The bytes of the hex font are the rows of Table 11, by one computed test.
+-- Assumes nothing.
+use Prim.Native.Nat.{ℕ, _+_, _*_, _/_, _%_, _<_}
+use native.Mathlib.Omega.{arith}
+use mathlib.Core.Bool.{Bool, true, false, Bool·beq}
+use mathlib.Core.Path.{_≡_, refl}
+use lib.Dec.{ltb}
+use lib.ListN.{getD}
+use borrow.Author.Tests.{ltb-true}
+use Rattle.words.specs.Choice.{bit}
+use Rattle.words.proofs.Below.{all, all-at}
+use Rattle.words.proofs.Truth.{same}
+use Rattle.glyphs.specs.Glyphs.{sevenLit}
+use Rattle.glyphs.specs.Numbers.{hexFont, sevenSegments}
+
+-- a character's segments a to g are seven bits
+pub hex-small : (c : ℕ) → c < 16 → getD hexFont c 0 < 128
+hex-small c h = ltb-true _ _ (all-at (λ k. ltb (getD hexFont k 0) 128) 16 refl c h)
+
+-- the segments of a 7-segment digit are eight bits
+pub seven-small : (hex : Bool) (v : ℕ) → v < 256 → sevenSegments hex v < 256
+seven-small true v h = omega (arith, hex-small (v % 16) (omega arith))
+seven-small false v h = h
+
+abbrev right : ℕ → ℕ → Bool
+right v n = Bool·beq (bit n (sevenSegments true v)) (sevenLit true v n)
+
+-- bit n of them is segment Dn
+pub seven-lit : (hex : Bool) (v n : ℕ) → v < 256 → n < 8 → bit n (sevenSegments hex v) ≡ sevenLit hex v n
+seven-lit true v n hv hn = same _ _ (all-at (right v) 8 (all-at (λ u. all (right u) 8) 256 refl v hv) n hn)
+seven-lit false v n hv hn = refl

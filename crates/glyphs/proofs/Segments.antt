@@ -1,0 +1,83 @@
+-- Each segment of a display's list is its bit of the lit segments.
+-- Assumes nothing.
+use Prim.Native.Nat.{ℕ, _+_, _*_, _/_, _%_, _^_, _<_}
+use native.Mathlib.Omega.{arith}
+use mathlib.Core.Bool.{Bool, true, false, true≢false}
+use mathlib.Core.List.{List}
+use mathlib.Core.Path.{_≡_, refl, ap, sym, _∙_}
+use lib.Dec.{eqb, ltb}
+use lib.ListN.{getD}
+use borrow.Author.Tests.{ltb-true}
+use Rattle.words.specs.Choice.{bit}
+use Rattle.words.proofs.Below.{all, all-at}
+use Rattle.words.proofs.Bits.{low-bit, high-bit}
+use Rattle.wiring.specs.Wiring.{Segment, none, glyph, point, first, second, sixteen, fourteen, pair, digitOf}
+use Rattle.wiring.specs.Table.{segmentNumber}
+use Rattle.wiring.specs.declared.Display.{Display}
+use Rattle.wiring.specs.declared.Display.the-variants.{Sixteen, Fourteen, SevenPair}
+use Rattle.glyphs.specs.Glyphs.{litBy}
+use Rattle.glyphs.specs.Numbers.{sevenSegments, pairSegments, glyphSegments, segmentsBy, SegmentBySegment}
+use Rattle.glyphs.proofs.Hex.{seven-small, seven-lit}
+
+-- a bit below w of x * 2 ^ w + y, and one from w on
+below : (w k x y : ℕ) → k < w → (x * 2 ^ w + y) % 2 ^ w ≡ y → bit k (x * 2 ^ w + y) ≡ bit k y
+below w k x y h e = sym (low-bit w k (x * 2 ^ w + y) h) ∙ ap (bit k) e
+
+above : (w k x y : ℕ) → (x * 2 ^ w + y) / 2 ^ w ≡ x → bit (k + w) (x * 2 ^ w + y) ≡ bit k x
+above w k x y e = high-bit w k (x * 2 ^ w + y) ∙ ap (bit k) e
+
+-- the lit segments of a cathode have no bit 17
+none-above : (x : ℕ) → x / 2 ^ 17 ≡ 0 → bit 17 x ≡ false
+none-above x e = high-bit 17 0 x ∙ ap (bit 0) e
+
+-- a segment of a 14- or 16-segment digit, and one of a 7-segment pair
+abbrev wordly : Segment → Bool
+wordly none = true
+wordly (glyph n) = ltb n 16
+wordly point = true
+wordly (first n) = false
+wordly (second n) = false
+
+abbrev paired : Segment → Bool
+paired none = true
+paired (glyph n) = false
+paired point = false
+paired (first n) = ltb n 8
+paired (second n) = ltb n 8
+
+module _ (hex : Bool) (font : List ℕ) (byte : ℕ → ℕ) (d : ℕ) (bytes : (i : ℕ) → byte i < 256) (words : (i : ℕ) → getD font i 0 < 65536) where
+  abbrev lit : Segment → Bool
+  lit s = litBy hex font (byte (digitOf d s)) s
+
+  abbrev word : ℕ
+  word = getD font (byte d % 128) 0
+
+  of-glyph : (s : Segment) → wordly s ≡ true → bit (segmentNumber s) (glyphSegments font (byte d)) ≡ lit s
+  of-glyph none e = none-above (byte d / 128 * 65536 + word) (omega (arith, words (byte d % 128), bytes d))
+  of-glyph (glyph n) e = below 16 n (byte d / 128) word (ltb-true n 16 e) (omega (arith, words (byte d % 128)))
+  of-glyph (first n) e = absurd (true≢false (sym e))
+  of-glyph (second n) e = absurd (true≢false (sym e))
+  of-glyph point e = above 16 0 (byte d / 128) word (omega (arith, words (byte d % 128))) ∙ sym (high-bit 7 0 (byte d))
+
+  abbrev seven : ℕ → ℕ
+  seven i = sevenSegments hex (byte i)
+
+  small : (i : ℕ) → seven i < 256
+  small i = seven-small hex (byte i) (bytes i)
+
+  of-pair : (s : Segment) → paired s ≡ true → bit (segmentNumber s) (pairSegments hex (byte d) (byte (d + 8))) ≡ lit s
+  of-pair none e = none-above (seven (d + 8) * 256 + seven d) (omega (arith, small d, small (d + 8)))
+  of-pair (glyph n) e = absurd (true≢false (sym e))
+  of-pair point e = absurd (true≢false (sym e))
+  of-pair (first n) e =
+      below 8 n (seven (d + 8)) (seven d) (ltb-true n 8 e) (omega (arith, small d)) ∙ seven-lit hex (byte d) n (bytes d) (ltb-true n 8 e)
+  of-pair (second n) e =
+      above 8 n (seven (d + 8)) (seven d) (omega (arith, small d)) ∙ seven-lit hex (byte (d + 8)) n (bytes (d + 8)) (ltb-true n 8 e)
+
+pub segment-by-segment : SegmentBySegment
+segment-by-segment Sixteen hex font byte d r bytes words h =
+    of-glyph hex font byte d bytes words (getD sixteen r none) (all-at (λ q. wordly (getD sixteen q none)) 17 refl r h)
+segment-by-segment Fourteen hex font byte d r bytes words h =
+    of-glyph hex font byte d bytes words (getD fourteen r none) (all-at (λ q. wordly (getD fourteen q none)) 17 refl r h)
+segment-by-segment SevenPair hex font byte d r bytes words h =
+    of-pair hex font byte d bytes words (getD pair r none) (all-at (λ q. paired (getD pair q none)) 17 refl r h)

@@ -1,0 +1,47 @@
+-- Document 01, "Segments and brightness": the segments that a digit's byte lights.
+-- Assumes nothing.
+use Prim.Native.Nat.{ℕ, _-_, _%_}
+use mathlib.Core.Bool.{Bool, true, false}
+use mathlib.Core.List.{List, [], _∷_}
+use lib.Dec.{eqb}
+use lib.ListN.{getD}
+use Rattle.words.specs.Choice.{if, bit}
+use Rattle.wiring.specs.Wiring.{Segment, none, glyph, point, first, second}
+
+-- the hex font of Table 11: a b c d e f g of the characters 0 to F, 1 being on
+abbrev pub table11 : List (List ℕ)
+table11 =
+    (1 ∷ 1 ∷ 1 ∷ 1 ∷ 1 ∷ 1 ∷ 0 ∷ [])
+    ∷ (0 ∷ 1 ∷ 1 ∷ 0 ∷ 0 ∷ 0 ∷ 0 ∷ [])
+    ∷ (1 ∷ 1 ∷ 0 ∷ 1 ∷ 1 ∷ 0 ∷ 1 ∷ [])
+    ∷ (1 ∷ 1 ∷ 1 ∷ 1 ∷ 0 ∷ 0 ∷ 1 ∷ [])
+    ∷ (0 ∷ 1 ∷ 1 ∷ 0 ∷ 0 ∷ 1 ∷ 1 ∷ [])
+    ∷ (1 ∷ 0 ∷ 1 ∷ 1 ∷ 0 ∷ 1 ∷ 1 ∷ [])
+    ∷ (1 ∷ 0 ∷ 1 ∷ 1 ∷ 1 ∷ 1 ∷ 1 ∷ [])
+    ∷ (1 ∷ 1 ∷ 1 ∷ 0 ∷ 0 ∷ 0 ∷ 0 ∷ [])
+    ∷ (1 ∷ 1 ∷ 1 ∷ 1 ∷ 1 ∷ 1 ∷ 1 ∷ [])
+    ∷ (1 ∷ 1 ∷ 1 ∷ 1 ∷ 0 ∷ 1 ∷ 1 ∷ [])
+    ∷ (1 ∷ 1 ∷ 1 ∷ 0 ∷ 1 ∷ 1 ∷ 1 ∷ [])
+    ∷ (0 ∷ 0 ∷ 1 ∷ 1 ∷ 1 ∷ 1 ∷ 1 ∷ [])
+    ∷ (1 ∷ 0 ∷ 0 ∷ 1 ∷ 1 ∷ 1 ∷ 0 ∷ [])
+    ∷ (0 ∷ 1 ∷ 1 ∷ 1 ∷ 1 ∷ 0 ∷ 1 ∷ [])
+    ∷ (1 ∷ 0 ∷ 0 ∷ 1 ∷ 1 ∷ 1 ∷ 1 ∷ [])
+    ∷ (1 ∷ 0 ∷ 0 ∷ 0 ∷ 1 ∷ 1 ∷ 1 ∷ [])
+    ∷ []
+
+-- segment Dn of a character, D6 to D0 being a to g
+abbrev pub hexOn : ℕ → ℕ → Bool
+hexOn c n = eqb (getD (getD table11 c []) (6 - n) 0) 1
+
+-- segment Dn of a 7-segment digit, D7 to D0 being dp a b c d e f g: a clear decode bit gives the byte itself; a set one uses the hex font, D7
+-- for dp, D6 to D4 ignored
+abbrev pub sevenLit : Bool → ℕ → ℕ → Bool
+sevenLit hex v n = if hex (if (eqb n 7) (bit 7 v) (hexOn (v % 16) n)) (bit n v)
+
+-- a segment lit by the byte of its own digit, under the table of its display: D6 to D0 pick the glyph word, D7 is dp
+abbrev pub litBy : Bool → List ℕ → ℕ → Segment → Bool
+litBy hex font v none = false
+litBy hex font v (glyph n) = bit n (getD font (v % 128) 0)
+litBy hex font v point = bit 7 v
+litBy hex font v (first n) = sevenLit hex v n
+litBy hex font v (second n) = sevenLit hex v n

@@ -1,0 +1,2 @@
+pub mod Glyphs
+pub mod Numbers

@@ -1,0 +1,78 @@
+-- Document 01, "Segments and brightness": the wiring as one table of 456 entries, row for row Tables 2 to 4.
+-- Assumes nothing.
+use Prim.Native.Nat.{ℕ, _+_, _*_, _<_}
+use mathlib.Core.List.{List, [], _∷_, _++_}
+use mathlib.Core.Path.{_≡_}
+use lib.ListN.{getD}
+use Rattle.wiring.specs.Wiring.{Segment, none, glyph, point, first, second, Wire, cathode, notDriven, carries, ruleAt}
+use Rattle.wiring.specs.declared.Display.{Display}
+use Rattle.wiring.specs.declared.Display.the-variants.{Sixteen, Fourteen, SevenPair}
+
+-- a segment's number: its bit in the lit segments of a cathode (`glyphs`), or 17 for none
+abbrev pub segmentNumber : Segment → ℕ
+segmentNumber none = 17
+segmentNumber (glyph n) = n
+segmentNumber point = 16
+segmentNumber (first n) = n
+segmentNumber (second n) = n + 8
+
+abbrev pub wireNumber : Wire → ℕ
+wireNumber cathode = 18
+wireNumber notDriven = 19
+wireNumber (carries s) = segmentNumber s
+
+-- a display's place in the table
+abbrev pub displayNumber : Display → ℕ
+displayNumber Sixteen = 0
+displayNumber Fourteen = 1
+displayNumber SevenPair = 2
+
+-- 16-segment: cathodes 0 to 7, each of pins O0 to O18 (Table 2)
+abbrev sixteenWires : List ℕ
+sixteenWires =
+    18 ∷ 19 ∷ 15 ∷ 14 ∷ 13 ∷ 12 ∷ 11 ∷ 10 ∷ 9 ∷ 8 ∷ 7 ∷ 6 ∷ 5 ∷ 4 ∷ 3 ∷ 2 ∷ 1 ∷ 0 ∷ 16
+    ∷ 19 ∷ 18 ∷ 15 ∷ 14 ∷ 13 ∷ 12 ∷ 11 ∷ 10 ∷ 9 ∷ 8 ∷ 7 ∷ 6 ∷ 5 ∷ 4 ∷ 3 ∷ 2 ∷ 1 ∷ 0 ∷ 16
+    ∷ 15 ∷ 14 ∷ 18 ∷ 19 ∷ 13 ∷ 12 ∷ 11 ∷ 10 ∷ 9 ∷ 8 ∷ 7 ∷ 6 ∷ 5 ∷ 4 ∷ 3 ∷ 2 ∷ 1 ∷ 0 ∷ 16
+    ∷ 15 ∷ 14 ∷ 19 ∷ 18 ∷ 13 ∷ 12 ∷ 11 ∷ 10 ∷ 9 ∷ 8 ∷ 7 ∷ 6 ∷ 5 ∷ 4 ∷ 3 ∷ 2 ∷ 1 ∷ 0 ∷ 16
+    ∷ 15 ∷ 14 ∷ 13 ∷ 12 ∷ 18 ∷ 19 ∷ 11 ∷ 10 ∷ 9 ∷ 8 ∷ 7 ∷ 6 ∷ 5 ∷ 4 ∷ 3 ∷ 2 ∷ 1 ∷ 0 ∷ 16
+    ∷ 15 ∷ 14 ∷ 13 ∷ 12 ∷ 19 ∷ 18 ∷ 11 ∷ 10 ∷ 9 ∷ 8 ∷ 7 ∷ 6 ∷ 5 ∷ 4 ∷ 3 ∷ 2 ∷ 1 ∷ 0 ∷ 16
+    ∷ 15 ∷ 14 ∷ 13 ∷ 12 ∷ 11 ∷ 10 ∷ 18 ∷ 19 ∷ 9 ∷ 8 ∷ 7 ∷ 6 ∷ 5 ∷ 4 ∷ 3 ∷ 2 ∷ 1 ∷ 0 ∷ 16
+    ∷ 15 ∷ 14 ∷ 13 ∷ 12 ∷ 11 ∷ 10 ∷ 19 ∷ 18 ∷ 9 ∷ 8 ∷ 7 ∷ 6 ∷ 5 ∷ 4 ∷ 3 ∷ 2 ∷ 1 ∷ 0 ∷ 16
+    ∷ []
+
+-- 14-segment (Table 3)
+abbrev fourteenWires : List ℕ
+fourteenWires =
+    18 ∷ 19 ∷ 15 ∷ 17 ∷ 13 ∷ 12 ∷ 11 ∷ 17 ∷ 9 ∷ 8 ∷ 7 ∷ 6 ∷ 5 ∷ 4 ∷ 3 ∷ 2 ∷ 1 ∷ 0 ∷ 16
+    ∷ 19 ∷ 18 ∷ 15 ∷ 17 ∷ 13 ∷ 12 ∷ 11 ∷ 17 ∷ 9 ∷ 8 ∷ 7 ∷ 6 ∷ 5 ∷ 4 ∷ 3 ∷ 2 ∷ 1 ∷ 0 ∷ 16
+    ∷ 15 ∷ 17 ∷ 18 ∷ 19 ∷ 13 ∷ 12 ∷ 11 ∷ 17 ∷ 9 ∷ 8 ∷ 7 ∷ 6 ∷ 5 ∷ 4 ∷ 3 ∷ 2 ∷ 1 ∷ 0 ∷ 16
+    ∷ 15 ∷ 17 ∷ 19 ∷ 18 ∷ 13 ∷ 12 ∷ 11 ∷ 17 ∷ 9 ∷ 8 ∷ 7 ∷ 6 ∷ 5 ∷ 4 ∷ 3 ∷ 2 ∷ 1 ∷ 0 ∷ 16
+    ∷ 15 ∷ 17 ∷ 13 ∷ 12 ∷ 18 ∷ 19 ∷ 11 ∷ 17 ∷ 9 ∷ 8 ∷ 7 ∷ 6 ∷ 5 ∷ 4 ∷ 3 ∷ 2 ∷ 1 ∷ 0 ∷ 16
+    ∷ 15 ∷ 17 ∷ 13 ∷ 12 ∷ 19 ∷ 18 ∷ 11 ∷ 17 ∷ 9 ∷ 8 ∷ 7 ∷ 6 ∷ 5 ∷ 4 ∷ 3 ∷ 2 ∷ 1 ∷ 0 ∷ 16
+    ∷ 15 ∷ 17 ∷ 13 ∷ 12 ∷ 11 ∷ 17 ∷ 18 ∷ 19 ∷ 9 ∷ 8 ∷ 7 ∷ 6 ∷ 5 ∷ 4 ∷ 3 ∷ 2 ∷ 1 ∷ 0 ∷ 16
+    ∷ 15 ∷ 17 ∷ 13 ∷ 12 ∷ 11 ∷ 17 ∷ 19 ∷ 18 ∷ 9 ∷ 8 ∷ 7 ∷ 6 ∷ 5 ∷ 4 ∷ 3 ∷ 2 ∷ 1 ∷ 0 ∷ 16
+    ∷ []
+
+-- 7-segment pairs (Table 4)
+abbrev pairWires : List ℕ
+pairWires =
+    18 ∷ 19 ∷ 6 ∷ 17 ∷ 5 ∷ 4 ∷ 3 ∷ 7 ∷ 2 ∷ 1 ∷ 0 ∷ 14 ∷ 13 ∷ 12 ∷ 11 ∷ 10 ∷ 9 ∷ 8 ∷ 15
+    ∷ 19 ∷ 18 ∷ 6 ∷ 17 ∷ 5 ∷ 4 ∷ 3 ∷ 7 ∷ 2 ∷ 1 ∷ 0 ∷ 14 ∷ 13 ∷ 12 ∷ 11 ∷ 10 ∷ 9 ∷ 8 ∷ 15
+    ∷ 6 ∷ 17 ∷ 18 ∷ 19 ∷ 5 ∷ 4 ∷ 3 ∷ 7 ∷ 2 ∷ 1 ∷ 0 ∷ 14 ∷ 13 ∷ 12 ∷ 11 ∷ 10 ∷ 9 ∷ 8 ∷ 15
+    ∷ 6 ∷ 17 ∷ 19 ∷ 18 ∷ 5 ∷ 4 ∷ 3 ∷ 7 ∷ 2 ∷ 1 ∷ 0 ∷ 14 ∷ 13 ∷ 12 ∷ 11 ∷ 10 ∷ 9 ∷ 8 ∷ 15
+    ∷ 6 ∷ 17 ∷ 5 ∷ 4 ∷ 18 ∷ 19 ∷ 3 ∷ 7 ∷ 2 ∷ 1 ∷ 0 ∷ 14 ∷ 13 ∷ 12 ∷ 11 ∷ 10 ∷ 9 ∷ 8 ∷ 15
+    ∷ 6 ∷ 17 ∷ 5 ∷ 4 ∷ 19 ∷ 18 ∷ 3 ∷ 7 ∷ 2 ∷ 1 ∷ 0 ∷ 14 ∷ 13 ∷ 12 ∷ 11 ∷ 10 ∷ 9 ∷ 8 ∷ 15
+    ∷ 6 ∷ 17 ∷ 5 ∷ 4 ∷ 3 ∷ 7 ∷ 18 ∷ 19 ∷ 2 ∷ 1 ∷ 0 ∷ 14 ∷ 13 ∷ 12 ∷ 11 ∷ 10 ∷ 9 ∷ 8 ∷ 15
+    ∷ 6 ∷ 17 ∷ 5 ∷ 4 ∷ 3 ∷ 7 ∷ 19 ∷ 18 ∷ 2 ∷ 1 ∷ 0 ∷ 14 ∷ 13 ∷ 12 ∷ 11 ∷ 10 ∷ 9 ∷ 8 ∷ 15
+    ∷ []
+
+abbrev pub wires : List ℕ
+wires = sixteenWires ++ fourteenWires ++ pairWires
+
+-- the entry of a display, a cathode and a pin
+abbrev pub entryAt : Display → ℕ → ℕ → ℕ
+entryAt k d p = getD wires (displayNumber k * 152 + d * 19 + p) 0
+
+-- the table obeys the rule
+abbrev pub WiringTable : Type 0
+WiringTable = (k : Display) (d p : ℕ) → d < 8 → p < 19 → entryAt k d p ≡ wireNumber (ruleAt k d p)

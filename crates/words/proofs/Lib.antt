@@ -1,5 +1,6 @@
 pub mod Arrays
 pub mod Below
 pub mod Bits
+pub mod Lists
 pub mod Tests
 pub mod Truth

@@ -1,0 +1,101 @@
+-- A pin by its entry of the wiring table is the pin that the rule gives.
+-- Assumes nothing.
+use Prim.Native.Nat.{ℕ, _+_, _-_, _<_}
+use native.Mathlib.Omega.{arith}
+use mathlib.Core.Bool.{Bool, true, false, _||_}
+use mathlib.Core.List.{List}
+use mathlib.Core.Path.{_≡_, refl}
+use lib.Dec.{eqb, ltb}
+use lib.ListN.{getD}
+use borrow.Author.Tests.{lt-ltb, ltb-true, ltb-false}
+use Rattle.words.specs.Choice.{if, bit}
+use Rattle.words.proofs.Below.{all, all-at}
+use Rattle.device.specs.declared.Device.{Device}
+use Rattle.wiring.specs.Wiring.{Segment, none, glyph, point, first, second, cathode, notDriven, carries, listOf, digitOf, partner, place, ruleAt, wireAt}
+use Rattle.wiring.specs.Table.{segmentNumber, wireNumber}
+use Rattle.wiring.specs.declared.Display.{Display}
+use Rattle.wiring.specs.declared.Display.the-variants.{Sixteen, Fourteen, SevenPair}
+use Rattle.wiring.proofs.Wired.{wired}
+use Rattle.glyphs.specs.Glyphs.{litBy}
+use Rattle.glyphs.specs.Numbers.{segmentsBy}
+use Rattle.glyphs.proofs.Segments.{segment-by-segment}
+use Rattle.display.specs.Cathode.{displayOf, shownByte, hexMode, fontOf, testOn, dark, lit}
+use Rattle.display.specs.Pins.{pinOf, pinAt}
+use Rattle.display.specs.Table.{litSegments, pinBy, PinByPin}
+
+-- a pin's place is one of the list's
+place-lt : (d p : ℕ) → d < 8 → p < 19 → place d p < 17
+place-lt d p hd hp = go (ltb p d) refl
+  where
+    go : (b : Bool) → ltb p d ≡ b → if b p (p - 2) < 17
+    go true e = omega (arith, ltb-true p d e)
+    go false e = omega arith
+
+-- in display test every segment's bit is set
+in-test : (t : Bool) (n segments : ℕ) (on : Bool) → ltb n 17 ≡ true → bit n segments ≡ on → bit n (if t 0x1FFFF segments) ≡ (t || on)
+in-test true n segments on h e = all-at (λ k. bit k 0x1FFFF) 17 refl n (ltb-true n 17 h)
+in-test false n segments on h e = e
+
+-- none, or a segment with a bit
+abbrev numbered : Segment → Bool
+numbered none = true
+numbered (glyph n) = ltb n 17
+numbered point = true
+numbered (first n) = ltb n 17
+numbered (second n) = ltb (n + 8) 17
+
+listed : (k : Display) → all (λ r. numbered (getD (listOf k) r none)) 17 ≡ true
+listed Sixteen = refl
+listed Fourteen = refl
+listed SevenPair = refl
+
+module _ (t : Bool) (segments : ℕ) (on : Segment → Bool) where
+  shown : (s : Segment) → numbered s ≡ true → bit (segmentNumber s) segments ≡ on s → pinBy (if t 0x1FFFF segments) (segmentNumber s) ≡ pinOf (λ q. t || on q) (carries s)
+  shown none h e = refl
+  shown (glyph n) h e = rw (h, in-test t n segments (on (glyph n)) h e)
+  shown point h e = rw (in-test t 16 segments (on point) refl e)
+  shown (first n) h e = rw (h, in-test t n segments (on (first n)) h e)
+  shown (second n) h e = rw (h, in-test t (n + 8) segments (on (second n)) h e)
+
+  -- the cathode and its partner carry no segment
+  wired-pin : (b c : Bool) (s : Segment) → numbered s ≡ true → bit (segmentNumber s) segments ≡ on s
+    → pinBy (if t 0x1FFFF segments) (wireNumber (if b cathode (if c notDriven (carries s)))) ≡ pinOf (λ q. t || on q) (if b cathode (if c notDriven (carries s)))
+  wired-pin true c s h e = refl
+  wired-pin false true s h e = refl
+  wired-pin false false s h e = shown s h e
+
+font-words : (k : Display) (font14 font16 : List ℕ) → ((i : ℕ) → getD font14 i 0 < 65536) → ((i : ℕ) → getD font16 i 0 < 65536) → (i : ℕ) → getD (fontOf k font14 font16) i 0 < 65536
+font-words Sixteen font14 font16 h14 h16 = h16
+font-words Fourteen font14 font16 h14 h16 = h14
+font-words SevenPair font14 font16 h14 h16 = h16
+
+module _ (x : Device) (d : ℕ) (font14 font16 : List ℕ) (p : ℕ)
+    (bytes : (i : ℕ) → shownByte x i < 256)
+    (words14 : (i : ℕ) → getD font14 i 0 < 65536)
+    (words16 : (i : ℕ) → getD font16 i 0 < 65536)
+    (hd : d < 8) (hp : p < 19) where
+  abbrev k : Display
+  k = displayOf x d
+
+  abbrev font : List ℕ
+  font = fontOf k font14 font16
+
+  pub rule-pin : pinBy (litSegments x d font14 font16) (wireNumber (ruleAt k d p)) ≡ pinOf (lit x d font14 font16) (ruleAt k d p)
+  rule-pin =
+      let h = place-lt d p hd hp in
+      wired-pin
+      (testOn x)
+      (segmentsBy k (hexMode x d) font (shownByte x d) (shownByte x (d + 8)))
+      (λ s. litBy (hexMode x d) font (shownByte x (digitOf d s)) s)
+      (eqb p d)
+      (eqb p (partner d))
+      (getD (listOf k) (place d p) none)
+      (all-at (λ r. numbered (getD (listOf k) r none)) 17 (listed k) (place d p) h)
+      (segment-by-segment k (hexMode x d) font (shownByte x) d (place d p) bytes (font-words k font14 font16 words14 words16) h)
+
+  pub wire-pin : pinBy (litSegments x d font14 font16) (wireNumber (wireAt k d p)) ≡ pinOf (lit x d font14 font16) (wireAt k d p)
+  wire-pin = rw (lt-ltb d 8 hd, lt-ltb p 19 hp) rule-pin
+
+pub pin-by-pin : PinByPin
+pin-by-pin x d font14 font16 p bytes words14 words16 hd hp =
+    rw (wired (displayOf x d) d p hd hp, lt-ltb d 8 hd, lt-ltb p 19 hp, rule-pin x d font14 font16 p bytes words14 words16 hd hp)

@@ -1,0 +1,49 @@
+-- Document 01, "Segments and brightness": the display of a cathode, and when a segment of it is lit.
+-- Assumes nothing.
+use Prim.Native.Nat.{ℕ}
+use mathlib.Core.Bool.{Bool, not, _&&_, _||_}
+use mathlib.Core.List.{List}
+use lib.Dec.{ltb}
+use lib.ListN.{getD}
+use Rattle.words.specs.Choice.{if, bit, odd}
+use Rattle.digits.specs.Digits.{planeOf}
+use Rattle.device.specs.Steps.{shownPlane}
+use Rattle.device.specs.declared.Device.{Device}
+use Rattle.wiring.specs.Wiring.{Segment, digitOf}
+use Rattle.wiring.specs.declared.Display.{Display}
+use Rattle.wiring.specs.declared.Display.the-variants.{Sixteen, Fourteen, SevenPair}
+use Rattle.glyphs.specs.Glyphs.{litBy}
+
+-- bit d of the digit type set is a 14-segment digit (Tables 12 and 13); clear it is 16- or 7-segment, and bit d of the fitted byte set means a
+-- 7-segment pair
+abbrev pub displayBy : ℕ → ℕ → ℕ → Display
+displayBy types fitted d = if (bit d types) Fourteen (if (bit d fitted) SevenPair Sixteen)
+
+abbrev pub displayOf : Device → ℕ → Display
+displayOf x d = displayBy (x .registers .controls .types) (x .fitted) d
+
+-- the byte that a digit shows: its own in the plane shown
+abbrev pub shownByte : Device → ℕ → ℕ
+shownByte x i = getD (planeOf (x .registers .planes) (shownPlane x)) i 0
+
+-- a set decode bit d: the hex font (Table 14)
+abbrev pub hexMode : Device → ℕ → Bool
+hexMode x d = bit d (x .registers .controls .decode)
+
+-- one lent table for each display
+abbrev pub fontOf : Display → List ℕ → List ℕ → List ℕ
+fontOf Sixteen font14 font16 = font16
+fontOf Fourteen font14 font16 = font14
+fontOf SevenPair font14 font16 = font16
+
+abbrev pub testOn : Device → Bool
+testOn x = odd (x .registers .controls .test)
+
+-- with display test off, a cathode is dark in shutdown (S=0) or above the scan limit
+abbrev pub dark : Device → ℕ → Bool
+dark x d = not (testOn x) && (not (odd (x .registers .config .s)) || ltb (x .registers .controls .limit) d)
+
+-- a segment of cathode d is lit: every one in display test, else by the byte of its own digit
+abbrev pub lit : Device → ℕ → List ℕ → List ℕ → Segment → Bool
+lit x d font14 font16 s =
+    testOn x || litBy (hexMode x d) (fontOf (displayOf x d) font14 font16) (shownByte x (digitOf d s)) s

@@ -1,0 +1,3 @@
+pub mod Cathode
+pub mod Pins
+pub mod Table

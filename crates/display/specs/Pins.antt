@@ -1,0 +1,51 @@
+-- Document 01, "Segments and brightness" and number 6: the pins O0 to O18 of a cathode, pin by pin.
+-- Assumes nothing.
+use Prim.Native.Nat.{ℕ}
+use mathlib.Core.Bool.{Bool, _&&_}
+use mathlib.Core.List.{List}
+use lib.Dec.{eqb, ltb}
+use lib.ListN.{length}
+use Rattle.words.specs.Choice.{if}
+use Rattle.words.specs.Lists.{tabulate}
+use Rattle.device.specs.declared.Device.{Device}
+use Rattle.wiring.specs.Wiring.{Segment, none, glyph, point, first, second, Wire, cathode, notDriven, carries, wireAt}
+use Rattle.display.specs.Cathode.{displayOf, dark, lit}
+use Rattle.display.specs.declared.Pin.{Pin}
+use Rattle.display.specs.declared.Pin.the-variants.{NotDriven, Cathode, Lit, Unlit, NoSegment}
+use Rattle.display.specs.declared.SegmentAnswer.{SegmentAnswer}
+
+-- the number of each pin in an answer
+abbrev pub pinNumber : Pin → ℕ
+pinNumber NotDriven = 0
+pinNumber Cathode = 1
+pinNumber Lit = 2
+pinNumber Unlit = 3
+pinNumber NoSegment = 4
+
+-- a pin by what it is to the cathode
+abbrev pub pinOf : (Segment → Bool) → Wire → Pin
+pinOf on cathode = Cathode
+pinOf on notDriven = NotDriven
+pinOf on (carries none) = NoSegment
+pinOf on (carries (glyph n)) = if (on (glyph n)) Lit Unlit
+pinOf on (carries point) = if (on point) Lit Unlit
+pinOf on (carries (first n)) = if (on (first n)) Lit Unlit
+pinOf on (carries (second n)) = if (on (second n)) Lit Unlit
+
+-- a pin of cathode d; none is driven where the cathode is dark
+abbrev pub pinAt : Device → ℕ → List ℕ → List ℕ → ℕ → Pin
+pinAt x d font14 font16 p =
+    if (dark x d) NotDriven (pinOf (lit x d font14 font16) (wireAt (displayOf x d) d p))
+
+-- 6 for a cathode above 7 or a glyph table not 128 long
+abbrev pub segmentsNumber : ℕ → List ℕ → List ℕ → ℕ
+segmentsNumber d font14 font16 =
+    if (ltb d 8) (if (eqb (length font14) 128) (if (eqb (length font16) 128) 0 6) 6) 6
+
+-- the answer: its number, and the pins O0 to O18; where refused no pin is driven
+abbrev pub segmentsOf : Device → ℕ → List ℕ → List ℕ → SegmentAnswer
+segmentsOf x d font14 font16 =
+    record {
+      number = segmentsNumber d font14 font16;
+      pins = tabulate 19 (λ p. pinNumber (if (eqb (segmentsNumber d font14 font16) 0) (pinAt x d font14 font16 p) NotDriven));
+    }

@@ -1,0 +1,47 @@
+-- The pins of a cathode by the wiring table and the number of its lit segments, equal to those pin by pin.
+-- Assumes nothing.
+use Prim.Native.Nat.{ℕ, _+_, _<_}
+use mathlib.Core.Bool.{Bool}
+use mathlib.Core.List.{List}
+use mathlib.Core.Path.{_≡_}
+use lib.Dec.{eqb, ltb}
+use lib.ListN.{getD}
+use Rattle.words.specs.Choice.{if, bit}
+use Rattle.device.specs.declared.Device.{Device}
+use Rattle.wiring.specs.Table.{entryAt}
+use Rattle.wiring.specs.declared.Display.{Display}
+use Rattle.glyphs.specs.Numbers.{segmentsBy}
+use Rattle.display.specs.Cathode.{displayOf, shownByte, hexMode, fontOf, testOn, dark}
+use Rattle.display.specs.Pins.{pinAt}
+use Rattle.display.specs.declared.Pin.{Pin}
+use Rattle.display.specs.declared.Pin.the-variants.{NotDriven, Cathode, Lit, Unlit, NoSegment}
+
+-- the lit segments as one number; in display test all seventeen bits
+abbrev pub segmentsLit : Bool → Display → Bool → List ℕ → List ℕ → ℕ → ℕ → ℕ
+segmentsLit test k hex font14 font16 v a = if test 0x1FFFF (segmentsBy k hex (fontOf k font14 font16) v a)
+
+abbrev pub litSegments : Device → ℕ → List ℕ → List ℕ → ℕ
+litSegments x d font14 font16 =
+    segmentsLit (testOn x) (displayOf x d) (hexMode x d) font14 font16 (shownByte x d) (shownByte x (d + 8))
+
+-- a pin by its entry of the wiring table
+abbrev pub pinBy : ℕ → ℕ → Pin
+pinBy segments entry =
+    if (ltb entry 17)
+    (if (bit entry segments) Lit Unlit)
+    (if (eqb entry 17) NoSegment (if (eqb entry 18) Cathode NotDriven))
+
+abbrev pub tablePin : Device → ℕ → List ℕ → List ℕ → ℕ → Pin
+tablePin x d font14 font16 p =
+    if (dark x d) NotDriven (pinBy (litSegments x d font14 font16) (entryAt (displayOf x d) d p))
+
+-- the two are equal, for bytes and words that are such, as those of every record and every lent table are
+abbrev pub PinByPin : Type 0
+PinByPin =
+    (x : Device) (d : ℕ) (font14 font16 : List ℕ) (p : ℕ)
+    → ((i : ℕ) → shownByte x i < 256)
+    → ((i : ℕ) → getD font14 i 0 < 65536)
+    → ((i : ℕ) → getD font16 i 0 < 65536)
+    → d < 8
+    → p < 19
+    → tablePin x d font14 font16 p ≡ pinAt x d font14 font16 p

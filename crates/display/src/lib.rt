@@ -1,0 +1,198 @@
+// What a cathode of one MAX6954 shows.
+ghost use mathlib.Core.Path.{_≡_};
+ghost use Prim.Native.Nat.{_<_};
+ghost use Rattle.words.specs.Choice.{bit};
+ghost use Rattle.words.specs.Lists.{tabulate};
+ghost use Rattle.wiring.specs.Wiring.{wireAt};
+ghost use Rattle.wiring.specs.Table.{wireNumber};
+ghost use Rattle.display.specs.Cathode.{displayBy, dark};
+ghost use Rattle.display.specs.Pins.{pinNumber, segmentsNumber, pinAt, segmentsOf};
+ghost use Rattle.display.specs.Table.{segmentsLit, pinBy, PinByPin};
+use device::Device;
+use wiring::Display;
+use words::Plane;
+
+// A pin of a cathode.
+pub enum Pin {
+    NotDriven,
+    Cathode,
+    Lit,
+    Unlit,
+    NoSegment,
+}
+
+impl Pin {
+    // The number of a pin in an answer.
+    pub fn number(self) -> u8
+        ensures { λ r. ⌜ r ≡ pinNumber self ⌝ }
+    {
+        match self {
+            Pin::NotDriven => 0,
+            Pin::Cathode => 1,
+            Pin::Lit => 2,
+            Pin::Unlit => 3,
+            Pin::NoSegment => 4,
+        }
+    }
+}
+
+// An answer: its number, and the pins O0 to O18 by theirs.
+#[repr(C)]
+pub struct SegmentAnswer {
+    pub number: u8,
+    pub pins: [u8; 19],
+}
+
+// Bit k of v is 1.
+fn bit_at(v: u32, k: usize) -> bool
+    requires { ⌜ k < 32 ⌝ }
+    ensures { λ r. ⌜ r ≡ bit k v ⌝ }
+{
+    (v >> k) % 2 == 1
+}
+
+// The display of a cathode by its bits of the digit type and the fitted byte.
+fn display_by(types: u8, fitted: u8, cathode: usize) -> Display
+    requires { ⌜ cathode < 8 ⌝ }
+    ensures { λ r. ⌜ r ≡ displayBy types fitted cathode ⌝ }
+{
+    if bit_at(types as u32, cathode) {
+        Display::Fourteen
+    } else if bit_at(fitted as u32, cathode) {
+        Display::SevenPair
+    } else {
+        Display::Sixteen
+    }
+}
+
+// The lit segments of a cathode, by the bytes that its digits show.
+fn segments_lit(
+    test: bool,
+    display: Display,
+    hex: bool,
+    font14: &[u16],
+    font16: &[u16],
+    byte: u8,
+    a: u8,
+) -> u32
+    ensures { λ r. ⌜ r ≡ segmentsLit test display hex (now (font14 .entry)) (now (font16 .entry)) byte a ⌝ }
+{
+    if test {
+        return 0x1FFFF;
+    }
+    match display {
+        Display::Sixteen => glyphs::glyph_segments(font16, byte),
+        Display::Fourteen => glyphs::glyph_segments(font14, byte),
+        Display::SevenPair => glyphs::pair_segments(hex, byte, a),
+    }
+}
+
+// A pin by its entry of the wiring table.
+fn pin_by(segments: u32, entry: u8) -> Pin
+    ensures { λ r. ⌜ r ≡ pinBy segments entry ⌝ }
+{
+    if entry < 17 {
+        if bit_at(segments, entry as usize) {
+            Pin::Lit
+        } else {
+            Pin::Unlit
+        }
+    } else if entry == 17 {
+        Pin::NoSegment
+    } else if entry == 18 {
+        Pin::Cathode
+    } else {
+        Pin::NotDriven
+    }
+}
+
+// The pins of a cathode by the wiring table.
+fn pins_by(segments: u32, display: Display, cathode: usize) -> [u8; 19]
+    ensures { λ r. ⌜ r ≡ tabulate 19 (λ p. pinNumber (pinBy segments (wireNumber (wireAt display cathode p)))) ⌝ }
+{
+    let mut pins = [0; 19];
+    let mut p = 0;
+    while p < 19 {
+        let entry = wiring::wire(display, cathode, p);
+        let pin = pin_by(segments, entry);
+        pins[p] = pin.number();
+        p += 1;
+    }
+    pins
+}
+
+// A cathode is dark.
+fn is_dark(device: Device, cathode: usize) -> bool
+    ensures { λ r. ⌜ r ≡ dark device cathode ⌝ }
+{
+    let controls = device.registers.controls;
+    let config = device.registers.config;
+    !(controls.test % 2 == 1) & (!(config.s % 2 == 1) | ((controls.limit as usize) < cathode))
+}
+
+// The pins of a cathode under two glyph tables.
+fn pins_shown(device: Device, cathode: usize, font14: &[u16], font16: &[u16]) -> [u8; 19]
+    requires { ⌜ cathode < 8 ⌝ }
+    ensures { λ r. ⌜ r ≡ tabulate 19 (λ p. pinNumber (pinAt device cathode (now (font14 .entry)) (now (font16 .entry)) p)) ⌝ }
+{
+    if is_dark(device, cathode) {
+        return [0; 19];
+    }
+    let controls = device.registers.controls;
+    let planes = device.registers.planes;
+    let plane = device.shown();
+    let digit = cathode as u8;
+    let byte = planes.digit(plane, digit);
+    let a = planes.digit(plane, digit + 8);
+    let display = display_by(controls.types, device.fitted, cathode);
+    let hex = bit_at(controls.decode as u32, cathode);
+    let segments = segments_lit(
+        controls.test % 2 == 1,
+        display,
+        hex,
+        font14,
+        font16,
+        byte,
+        a,
+    );
+    pins_by(segments, display, cathode)
+}
+
+// 6 for a cathode above 7 or a glyph table not 128 long, else 0.
+pub fn segments_number(cathode: usize, font14: &[u16], font16: &[u16]) -> u8
+    ensures { λ r. ⌜ r ≡ segmentsNumber cathode (now (font14 .entry)) (now (font16 .entry)) ⌝ }
+{
+    if cathode < 8 {
+        if font14.len() == 128 {
+            if font16.len() == 128 { 0 } else { 6 }
+        } else {
+            6
+        }
+    } else {
+        6
+    }
+}
+
+// What a cathode shows under two glyph tables, one for 14 and one for 16 segments.
+pub fn segments(device: Device, cathode: usize, font14: &[u16], font16: &[u16]) -> SegmentAnswer
+    ensures { λ r. ⌜ r ≡ segmentsOf device cathode (now (font14 .entry)) (now (font16 .entry)) ⌝ }
+{
+    let number = segments_number(cathode, font14, font16);
+    if number == 0 {
+        let pins = pins_shown(device, cathode, font14, font16);
+        SegmentAnswer {
+            number: number,
+            pins: pins,
+        }
+    } else {
+        SegmentAnswer {
+            number: number,
+            pins: [0; 19],
+        }
+    }
+}
+
+// The pins by the wiring table are those pin by pin.
+pub fn pin_by_pin()
+    ensures { λ _. ⌜ PinByPin ⌝ }
+{}

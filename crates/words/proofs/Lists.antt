@@ -1,0 +1,31 @@
+-- A list given by its elements: filled from the front, and read.
+-- Assumes nothing.
+use Prim.Native.Nat.{ℕ, zero, suc, _+_, _<_}
+use native.Mathlib.Numerals.{add-one}
+use native.Mathlib.Omega.{arith}
+use mathlib.Core.List.{List, [], _∷_, _++_, append-assoc}
+use mathlib.Core.Path.{_≡_, refl}
+use lib.ListN.{length, drop, set, length-append}
+use lib.Seq.{drop-cons, set-at}
+use Rattle.words.specs.Lists.{tabulate}
+
+pub length-tabulate : {A : Type 0} (n : ℕ) (f : ℕ → A) → length (tabulate n f) ≡ n
+unfolding tabulate
+length-tabulate zero f = refl
+length-tabulate (suc n) f = rw (length-append, length-tabulate n f) (omega arith)
+
+-- lists whose elements are equal
+pub tabulate-ext : {A : Type 0} (n : ℕ) (f g : ℕ → A) → ((k : ℕ) → k < n → f k ≡ g k) → tabulate n f ≡ tabulate n g
+unfolding tabulate
+tabulate-ext zero f g h = refl
+tabulate-ext (suc n) f g h = rw (tabulate-ext n f g (λ k l. h k (omega arith)), h n (omega arith))
+
+-- a loop that fills a list from the front, before its first turn and at each
+pub tabulate-none : {A : Type 0} (f : ℕ → A) (d : List A) → d ≡ tabulate 0 f ++ drop 0 d
+unfolding tabulate
+tabulate-none f d = refl
+
+pub tabulate-more : (n : ℕ) (f : ℕ → ℕ) (d : List ℕ) → n < length d → set (tabulate n f ++ drop n d) n (f n) ≡ tabulate (n + 1) f ++ drop (n + 1) d
+unfolding tabulate
+tabulate-more n f d h =
+    rw (drop-cons d n 0, set-at _ _ _ _ n (length-tabulate n f), add-one, append-assoc)

@@ -4,12 +4,14 @@ use Prim.Native.Nat.{ℕ, _+_, _-_, _<_}
 use native.Mathlib.Omega.{arith}
 use mathlib.Core.Bool.{Bool, true, false, _||_}
 use mathlib.Core.List.{List}
-use mathlib.Core.Path.{_≡_, refl}
+use mathlib.Core.Path.{_≡_, refl, ap}
 use lib.Dec.{eqb, ltb}
 use lib.ListN.{getD}
 use borrow.Author.Tests.{lt-ltb, ltb-true, ltb-false}
 use Rattle.words.specs.Choice.{if, bit}
+use Rattle.words.specs.Lists.{tabulate}
 use Rattle.words.proofs.Below.{all, all-at}
+use Rattle.words.proofs.Lists.{tabulate-ext}
 use Rattle.device.specs.declared.Device.{Device}
 use Rattle.wiring.specs.Wiring.{Segment, none, glyph, point, first, second, cathode, notDriven, carries, listOf, digitOf, partner, place, ruleAt, wireAt}
 use Rattle.wiring.specs.Table.{segmentNumber, wireNumber}
@@ -20,8 +22,8 @@ use Rattle.glyphs.specs.Glyphs.{litBy}
 use Rattle.glyphs.specs.Numbers.{segmentsBy}
 use Rattle.glyphs.proofs.Segments.{segment-by-segment}
 use Rattle.display.specs.Cathode.{displayOf, shownByte, hexMode, fontOf, testOn, dark, lit}
-use Rattle.display.specs.Pins.{pinOf, pinAt}
-use Rattle.display.specs.Table.{litSegments, pinBy, PinByPin}
+use Rattle.display.specs.Pins.{pinNumber, pinOf, pinAt, segmentsNumber}
+use Rattle.display.specs.Table.{litSegments, pinBy, tablePin, PinByPin}
 
 -- a pin's place is one of the list's
 place-lt : (d p : ℕ) → d < 8 → p < 19 → place d p < 17
@@ -59,7 +61,7 @@ module _ (t : Bool) (segments : ℕ) (on : Segment → Bool) where
 
   -- the cathode and its partner carry no segment
   wired-pin : (b c : Bool) (s : Segment) → numbered s ≡ true → bit (segmentNumber s) segments ≡ on s
-    → pinBy (if t 0x1FFFF segments) (wireNumber (if b cathode (if c notDriven (carries s)))) ≡ pinOf (λ q. t || on q) (if b cathode (if c notDriven (carries s)))
+      → pinBy (if t 0x1FFFF segments) (wireNumber (if b cathode (if c notDriven (carries s)))) ≡ pinOf (λ q. t || on q) (if b cathode (if c notDriven (carries s)))
   wired-pin true c s h e = refl
   wired-pin false true s h e = refl
   wired-pin false false s h e = shown s h e
@@ -69,19 +71,20 @@ font-words Sixteen font14 font16 h14 h16 = h16
 font-words Fourteen font14 font16 h14 h16 = h14
 font-words SevenPair font14 font16 h14 h16 = h16
 
-module _ (x : Device) (d : ℕ) (font14 font16 : List ℕ) (p : ℕ)
-    (bytes : (i : ℕ) → shownByte x i < 256)
+module _ (x : Device) (d : ℕ) (font14 font16 : List ℕ)
+    (first-byte : shownByte x d < 256)
+    (second-byte : shownByte x (d + 8) < 256)
     (words14 : (i : ℕ) → getD font14 i 0 < 65536)
     (words16 : (i : ℕ) → getD font16 i 0 < 65536)
-    (hd : d < 8) (hp : p < 19) where
+    (hd : d < 8) where
   abbrev k : Display
   k = displayOf x d
 
   abbrev font : List ℕ
   font = fontOf k font14 font16
 
-  pub rule-pin : pinBy (litSegments x d font14 font16) (wireNumber (ruleAt k d p)) ≡ pinOf (lit x d font14 font16) (ruleAt k d p)
-  rule-pin =
+  rule-pin : (p : ℕ) → p < 19 → pinBy (litSegments x d font14 font16) (wireNumber (ruleAt k d p)) ≡ pinOf (lit x d font14 font16) (ruleAt k d p)
+  rule-pin p hp =
       let h = place-lt d p hd hp in
       wired-pin
       (testOn x)
@@ -91,11 +94,28 @@ module _ (x : Device) (d : ℕ) (font14 font16 : List ℕ) (p : ℕ)
       (eqb p (partner d))
       (getD (listOf k) (place d p) none)
       (all-at (λ r. numbered (getD (listOf k) r none)) 17 (listed k) (place d p) h)
-      (segment-by-segment k (hexMode x d) font (shownByte x) d (place d p) bytes (font-words k font14 font16 words14 words16) h)
+      (segment-by-segment k (hexMode x d) font (shownByte x) d (place d p) first-byte second-byte (font-words k font14 font16 words14 words16) h)
 
-  pub wire-pin : pinBy (litSegments x d font14 font16) (wireNumber (wireAt k d p)) ≡ pinOf (lit x d font14 font16) (wireAt k d p)
-  wire-pin = rw (lt-ltb d 8 hd, lt-ltb p 19 hp) rule-pin
+  -- the pins of a cathode that is not dark
+  pub pins-lit : (segments : ℕ) (r : Display) → dark x d ≡ false → r ≡ k → segments ≡ litSegments x d font14 font16
+      → tabulate 19 (λ p. pinNumber (pinBy segments (wireNumber (wireAt r d p)))) ≡ tabulate 19 (λ p. pinNumber (pinAt x d font14 font16 p))
+  pins-lit segments r bright e es =
+      tabulate-ext 19 _ _ (λ p hp. rw (bright, e, es, lt-ltb d 8 hd, lt-ltb p 19 hp) (ap pinNumber (rule-pin p hp)))
+
+  pub table-pin : (p : ℕ) → p < 19 → tablePin x d font14 font16 p ≡ pinAt x d font14 font16 p
+  table-pin p hp = rw (wired k d p hd hp, lt-ltb d 8 hd, lt-ltb p 19 hp, rule-pin p hp)
 
 pub pin-by-pin : PinByPin
-pin-by-pin x d font14 font16 p bytes words14 words16 hd hp =
-    rw (wired (displayOf x d) d p hd hp, lt-ltb d 8 hd, lt-ltb p 19 hp, rule-pin x d font14 font16 p bytes words14 words16 hd hp)
+pin-by-pin x d font14 font16 p first-byte second-byte words14 words16 hd hp = table-pin x d font14 font16 first-byte second-byte words14 words16 hd p hp
+
+-- the pins of a dark cathode
+pub pins-dark : (x : Device) (d : ℕ) (font14 font16 : List ℕ) → dark x d ≡ true → tabulate 19 (λ p. 0) ≡ tabulate 19 (λ p. pinNumber (pinAt x d font14 font16 p))
+pins-dark x d font14 font16 e = tabulate-ext 19 _ _ (λ p hp. rw e)
+
+-- a call that is not refused names a cathode
+pub cathode-lt : (d : ℕ) (font14 font16 : List ℕ) → segmentsNumber d font14 font16 ≡ 0 → d < 8
+cathode-lt d font14 font16 e = go (ltb d 8) refl _ e
+  where
+    go : (b : Bool) → ltb d 8 ≡ b → (n : ℕ) → if b n 6 ≡ 0 → d < 8
+    go true h n e = ltb-true d 8 h
+    go false h n e = absurd (omega (arith, e))

@@ -39,7 +39,8 @@ tablePin x d font14 font16 p =
 abbrev pub PinByPin : Type 0
 PinByPin =
     (x : Device) (d : ℕ) (font14 font16 : List ℕ) (p : ℕ)
-    → ((i : ℕ) → shownByte x i < 256)
+    → shownByte x d < 256
+    → shownByte x (d + 8) < 256
     → ((i : ℕ) → getD font14 i 0 < 65536)
     → ((i : ℕ) → getD font16 i 0 < 65536)
     → d < 8

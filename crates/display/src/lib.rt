@@ -5,7 +5,7 @@ ghost use Rattle.words.specs.Choice.{bit};
 ghost use Rattle.words.specs.Lists.{tabulate};
 ghost use Rattle.wiring.specs.Wiring.{wireAt};
 ghost use Rattle.wiring.specs.Table.{wireNumber};
-ghost use Rattle.display.specs.Cathode.{displayBy, dark};
+ghost use Rattle.display.specs.Cathode.{displayBy, shownByte, dark};
 ghost use Rattle.display.specs.Pins.{pinNumber, segmentsNumber, pinAt, segmentsOf};
 ghost use Rattle.display.specs.Table.{segmentsLit, pinBy, PinByPin};
 use device::Device;
@@ -121,6 +121,15 @@ fn pins_by(segments: u32, display: Display, cathode: usize) -> [u8; 19]
     pins
 }
 
+// The byte that a digit shows.
+fn byte_shown(device: Device, digit: u8) -> u8
+    ensures { λ r. ⌜ r ≡ shownByte device digit ⌝ }
+{
+    let planes = device.registers.planes;
+    let plane = device.shown();
+    planes.digit(plane, digit)
+}
+
 // A cathode is dark.
 fn is_dark(device: Device, cathode: usize) -> bool
     ensures { λ r. ⌜ r ≡ dark device cathode ⌝ }
@@ -138,12 +147,10 @@ fn pins_shown(device: Device, cathode: usize, font14: &[u16], font16: &[u16]) ->
     if is_dark(device, cathode) {
         return [0; 19];
     }
-    let controls = device.registers.controls;
-    let planes = device.registers.planes;
-    let plane = device.shown();
     let digit = cathode as u8;
-    let byte = planes.digit(plane, digit);
-    let a = planes.digit(plane, digit + 8);
+    let byte = byte_shown(device, digit);
+    let a = byte_shown(device, digit + 8);
+    let controls = device.registers.controls;
     let display = display_by(controls.types, device.fitted, cathode);
     let hex = bit_at(controls.decode as u32, cathode);
     let segments = segments_lit(

@@ -45,7 +45,7 @@ paired point = false
 paired (first n) = ltb n 8
 paired (second n) = ltb n 8
 
-module _ (hex : Bool) (font : List ℕ) (byte : ℕ → ℕ) (d : ℕ) (bytes : (i : ℕ) → byte i < 256) (words : (i : ℕ) → getD font i 0 < 65536) where
+module _ (hex : Bool) (font : List ℕ) (byte : ℕ → ℕ) (d : ℕ) (hd : byte d < 256) (ha : byte (d + 8) < 256) (words : (i : ℕ) → getD font i 0 < 65536) where
   abbrev lit : Segment → Bool
   lit s = litBy hex font (byte (digitOf d s)) s
 
@@ -53,7 +53,7 @@ module _ (hex : Bool) (font : List ℕ) (byte : ℕ → ℕ) (d : ℕ) (bytes : 
   word = getD font (byte d % 128) 0
 
   of-glyph : (s : Segment) → wordly s ≡ true → bit (segmentNumber s) (glyphSegments font (byte d)) ≡ lit s
-  of-glyph none e = none-above (byte d / 128 * 65536 + word) (omega (arith, words (byte d % 128), bytes d))
+  of-glyph none e = none-above (byte d / 128 * 65536 + word) (omega (arith, words (byte d % 128), hd))
   of-glyph (glyph n) e = below 16 n (byte d / 128) word (ltb-true n 16 e) (omega (arith, words (byte d % 128)))
   of-glyph (first n) e = absurd (true≢false (sym e))
   of-glyph (second n) e = absurd (true≢false (sym e))
@@ -62,22 +62,22 @@ module _ (hex : Bool) (font : List ℕ) (byte : ℕ → ℕ) (d : ℕ) (bytes : 
   abbrev seven : ℕ → ℕ
   seven i = sevenSegments hex (byte i)
 
-  small : (i : ℕ) → seven i < 256
-  small i = seven-small hex (byte i) (bytes i)
+  small : seven d < 256
+  small = seven-small hex (byte d) hd
 
   of-pair : (s : Segment) → paired s ≡ true → bit (segmentNumber s) (pairSegments hex (byte d) (byte (d + 8))) ≡ lit s
-  of-pair none e = none-above (seven (d + 8) * 256 + seven d) (omega (arith, small d, small (d + 8)))
+  of-pair none e = none-above (seven (d + 8) * 256 + seven d) (omega (arith, small, seven-small hex (byte (d + 8)) ha))
   of-pair (glyph n) e = absurd (true≢false (sym e))
   of-pair point e = absurd (true≢false (sym e))
   of-pair (first n) e =
-      below 8 n (seven (d + 8)) (seven d) (ltb-true n 8 e) (omega (arith, small d)) ∙ seven-lit hex (byte d) n (bytes d) (ltb-true n 8 e)
+      below 8 n (seven (d + 8)) (seven d) (ltb-true n 8 e) (omega (arith, small)) ∙ seven-lit hex (byte d) n hd (ltb-true n 8 e)
   of-pair (second n) e =
-      above 8 n (seven (d + 8)) (seven d) (omega (arith, small d)) ∙ seven-lit hex (byte (d + 8)) n (bytes (d + 8)) (ltb-true n 8 e)
+      above 8 n (seven (d + 8)) (seven d) (omega (arith, small)) ∙ seven-lit hex (byte (d + 8)) n ha (ltb-true n 8 e)
 
 pub segment-by-segment : SegmentBySegment
-segment-by-segment Sixteen hex font byte d r bytes words h =
-    of-glyph hex font byte d bytes words (getD sixteen r none) (all-at (λ q. wordly (getD sixteen q none)) 17 refl r h)
-segment-by-segment Fourteen hex font byte d r bytes words h =
-    of-glyph hex font byte d bytes words (getD fourteen r none) (all-at (λ q. wordly (getD fourteen q none)) 17 refl r h)
-segment-by-segment SevenPair hex font byte d r bytes words h =
-    of-pair hex font byte d bytes words (getD pair r none) (all-at (λ q. paired (getD pair q none)) 17 refl r h)
+segment-by-segment Sixteen hex font byte d r hd ha words h =
+    of-glyph hex font byte d hd ha words (getD sixteen r none) (all-at (λ q. wordly (getD sixteen q none)) 17 refl r h)
+segment-by-segment Fourteen hex font byte d r hd ha words h =
+    of-glyph hex font byte d hd ha words (getD fourteen r none) (all-at (λ q. wordly (getD fourteen q none)) 17 refl r h)
+segment-by-segment SevenPair hex font byte d r hd ha words h =
+    of-pair hex font byte d hd ha words (getD pair r none) (all-at (λ q. paired (getD pair q none)) 17 refl r h)

@@ -38,7 +38,8 @@ segmentsBy SevenPair hex font v a = pairSegments hex v a
 abbrev pub SegmentBySegment : Type 0
 SegmentBySegment =
     (k : Display) (hex : Bool) (font : List ℕ) (byte : ℕ → ℕ) (d r : ℕ)
-    → ((i : ℕ) → byte i < 256)
+    → byte d < 256
+    → byte (d + 8) < 256
     → ((i : ℕ) → getD font i 0 < 65536)
     → r < 17
     → bit (segmentNumber (getD (listOf k) r none)) (segmentsBy k hex font (byte d) (byte (d + 8)))

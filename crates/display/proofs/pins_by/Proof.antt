@@ -54,7 +54,7 @@ loop-less c = omega arith
 
 -- src/lib.rt:115:5
 loop-again : tie.Need-loop-again Inv-loop μ-loop
-loop-again c = 
+loop-again c =
     let l = c .before .before .before .before .loop in (
       omega arith,
       simp length-set (l .inv .1),
@@ -63,7 +63,7 @@ loop-again c =
 
 -- src/lib.rt:110:1
 returns : tie.Need-returns Inv-loop μ-loop
-returns c = 
+returns c =
     let l = c .before .loop in
     let e : l .p ≡ 19 = omega arith in
     l .inv .2 ∙ rw e (append-nil _)

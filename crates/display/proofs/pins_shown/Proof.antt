@@ -1,67 +1,85 @@
+use mathlib.Core.Path.{_≡_, sym, _∙_}
+use native.Mathlib.Omega.{arith}
+use Rattle.words.specs.Lists.{tabulate}
+use Rattle.display.proofs.Wires.{pins-dark, pins-lit}
 use borrow.Author.Needs.{needs}
 use Rattle.display.proofs.pins_shown.Statement.{statement}
 use Rattle.display.proofs.pins_shown.Tie as tie
 use Rattle.display.proofs.pins_shown.Reads as reads
 use Rattle.display.proofs.pins_shown.Lts as lts
-use Rattle.device.proofs.Device.shown.Reads as shown-reads
-use Rattle.digits.proofs.Planes.digit.Reads as digit-reads
 use Rattle.display.proofs.bit_at.Reads as bit-at-reads
+use Rattle.display.proofs.byte_shown.Reads as byte-shown-reads
 use Rattle.display.proofs.display_by.Reads as display-by-reads
 use Rattle.display.proofs.is_dark.Reads as is-dark-reads
 use Rattle.display.proofs.pins_by.Reads as pins-by-reads
 use Rattle.display.proofs.segments_lit.Reads as segments-lit-reads
 
--- src/lib.rt:138:8
+-- src/lib.rt:147:8
 is-dark-requires : tie.Need-is-dark-requires
 is-dark-requires c κs = search needs
 
--- src/lib.rt:139:9
+-- src/lib.rt:148:9
 returns : tie.Need-returns
-returns c = ?
+unfolding tabulate
+returns c =
+    let a = c .before .before .before .before .args in
+    pins-dark (a .device) (a .cathode) (a .font14 .now) (a .font16 .now) (sym (c .before .is-dark .ensures) ∙ c .if1 .taken)
 
--- src/lib.rt:143:9
-shown-requires : tie.Need-shown-requires
-shown-requires c κs = search needs
-
--- src/lib.rt:144:17
+-- src/lib.rt:150:17
 cast-digit : tie.Need-cast-digit
 cast-digit c = search needs
 
--- src/lib.rt:145:9
-digit-requires : tie.Need-digit-requires
-digit-requires c κs = search needs
+-- src/lib.rt:151:9
+byte-shown-requires : tie.Need-byte-shown-requires
+byte-shown-requires c κs = search needs
 
--- src/lib.rt:146:33
-add-digit : tie.Need-add-digit
-add-digit c = search needs
+-- src/lib.rt:152:32
+add-byte-shown : tie.Need-add-byte-shown
+add-byte-shown c = search needs
 
--- src/lib.rt:146:9
-digit-requires-2 : tie.Need-digit-requires-2
-digit-requires-2 c κs = search needs
+-- src/lib.rt:152:9
+byte-shown-requires-2 : tie.Need-byte-shown-requires-2
+byte-shown-requires-2 c κs = search needs
 
--- src/lib.rt:147:9
+-- src/lib.rt:154:9
 display-by-requires : tie.Need-display-by-requires
 display-by-requires c κs = search needs
 
--- src/lib.rt:148:22
+-- src/lib.rt:155:22
 cast-bit-at : tie.Need-cast-bit-at
 cast-bit-at c = search needs
 
--- src/lib.rt:148:9
+-- src/lib.rt:155:9
 bit-at-requires : tie.Need-bit-at-requires
 bit-at-requires c κs = search needs
 
--- src/lib.rt:149:9
+-- src/lib.rt:156:9
 segments-lit-requires : tie.Need-segments-lit-requires
 segments-lit-requires c κs = search needs
 
--- src/lib.rt:158:5
+-- src/lib.rt:165:5
 pins-by-requires : tie.Need-pins-by-requires
 pins-by-requires c κs = search needs
 
--- src/lib.rt:134:1
+-- src/lib.rt:143:1
 returns-2 : tie.Need-returns-2
-returns-2 c = ?
+returns-2 c =
+    let a = c .before .before .before .before .before .before .before .before .before .before .before .before .before .args in
+    let byte = c .before .before .before .before .before .before .before .before .byte-shown in
+    let byte-a = c .before .before .before .before .before .before .before .byte-shown2 in
+    let display = c .before .before .before .before .before .display-by .ensures in
+    c .pins-by .ensures
+    ∙ pins-lit (a .device) (a .cathode) (a .font14 .now) (a .font16 .now)
+    (omega (arith, byte .ok, byte .ensures))
+    (omega (arith, byte-a .ok, byte-a .ensures))
+    (λ i. c .before .before .before .before .before .before .before .before .before .before .before .before .shared-slice-known .given i .fits)
+    (λ i. c .before .before .before .before .before .before .before .before .before .before .before .shared-slice-known2 .given i .fits)
+    (c .before .before .before .before .before .before .before .before .before .before .before .before .before .pre)
+    _
+    _
+    (sym (c .before .before .before .before .before .before .before .before .before .before .is-dark .ensures) ∙ c .before .before .before .before .before .before .before .before .before .if1 .left)
+    display
+    (c .before .segments-lit .ensures ∙ rw (byte .ensures, byte-a .ensures, display, c .before .before .before .bit-at .ensures))
 
 pub pins-shown-spec : {M : Type 1} → statement M
 pins-shown-spec =
@@ -69,11 +87,10 @@ pins-shown-spec =
     (tie.spec
     is-dark-requires
     returns
-    shown-requires
     cast-digit
-    digit-requires
-    add-digit
-    digit-requires-2
+    byte-shown-requires
+    add-byte-shown
+    byte-shown-requires-2
     display-by-requires
     cast-bit-at
     bit-at-requires

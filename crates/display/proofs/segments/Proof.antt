@@ -1,3 +1,7 @@
+use Rattle.words.specs.Lists.{tabulate}
+use borrow.Author.Tests.{ne-eqb}
+use mathlib.Core.Path.{sym, _∙_}
+use Rattle.display.proofs.Wires.{cathode-lt}
 use borrow.Author.Needs.{needs}
 use Rattle.display.proofs.segments.Statement.{statement}
 use Rattle.display.proofs.segments.Tie as tie
@@ -12,15 +16,18 @@ segments-number-requires c κs = search needs
 
 -- src/lib.rt:182:13
 pins-shown-requires : tie.Need-pins-shown-requires
-pins-shown-requires c κs = ?
+pins-shown-requires c κs =
+    let a = c .before .before .before .before .args in
+    cathode-lt (a .cathode) (a .font14 .now) (a .font16 .now) (sym (c .before .segments-number .ensures) ∙ c .if1 .taken)
 
 -- src/lib.rt:177:1
 returns : tie.Need-returns
-returns c = ?
+returns c = rw (c .pins-shown .ensures, c .before .before .segments-number .ensures, sym (c .before .before .segments-number .ensures) ∙ c .before .if1 .taken)
 
 -- src/lib.rt:177:1
 returns-2 : tie.Need-returns-2
-returns-2 c = ?
+unfolding tabulate
+returns-2 c = rw (← c .before .segments-number .ensures, ne-eqb _ _ (c .if1 .left))
 
 pub segments-spec : {M : Type 1} → statement M
 segments-spec = tie.close (tie.spec segments-number-requires pins-shown-requires returns returns-2)

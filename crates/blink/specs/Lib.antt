@@ -1,1 +1,2 @@
 pub mod Blink
+pub mod Part

@@ -2,6 +2,7 @@
 ghost use mathlib.Core.Path.{_≡_};
 ghost use Rattle.words.specs.Choice.{if};
 ghost use Rattle.blink.specs.Blink.{advanced, phaseAt, shownAt};
+ghost use Rattle.blink.specs.Part.{planeNumber, planePart};
 use words::Plane;
 
 // Master clocks added to a count.
@@ -46,5 +47,44 @@ pub fn shown(count: u32, fast: bool, blinking: bool) -> Plane
         phase(count, fast)
     } else {
         Plane::P0
+    }
+}
+
+// 6 for a lent plane not 16 long, a digit above 15, or a last digit below the first; else 0.
+pub fn plane_number(p0: &[u8], p1: &[u8], first: usize, last: usize) -> u8
+    ensures { λ r. ⌜ r ≡ planeNumber (now (p0 .entry)) (now (p1 .entry)) first last ⌝ }
+{
+    if p0.len() != 16 {
+        return 6;
+    }
+    if p1.len() != 16 {
+        return 6;
+    }
+    if 16 <= last {
+        return 6;
+    }
+    if last < first {
+        return 6;
+    }
+    0
+}
+
+// Digits first to last of the plane shown, of two lent ones; the empty part where refused.
+pub fn plane_part<'a>(
+    shown: Plane,
+    p0: &'a [u8],
+    p1: &'a [u8],
+    first: usize,
+    last: usize,
+) -> &'a [u8]
+    ensures { λ r. ⌜ now r ≡ planePart shown (now (p0 .entry)) (now (p1 .entry)) first last ⌝ }
+{
+    if plane_number(p0, p1, first, last) != 0 {
+        return &p0[..0];
+    }
+    let end = last + 1;
+    match shown {
+        Plane::P0 => &p0[first..end],
+        Plane::P1 => &p1[first..end],
     }
 }

@@ -7,11 +7,12 @@ use mathlib.Core.List.{List}
 use mathlib.Core.Path.{_≡_, refl, ap}
 use lib.Dec.{eqb, ltb}
 use lib.ListN.{getD}
-use borrow.Author.Tests.{lt-ltb, ltb-true, ltb-false}
+use borrow.Author.Tests.{lt-ltb, ltb-true}
 use Rattle.words.specs.Choice.{if, bit}
 use Rattle.words.specs.Lists.{tabulate}
 use Rattle.words.proofs.Below.{all, all-at}
 use Rattle.words.proofs.Lists.{tabulate-ext}
+use Rattle.words.proofs.Truth.{passed}
 use Rattle.device.specs.declared.Device.{Device}
 use Rattle.wiring.specs.Wiring.{Segment, none, glyph, point, first, second, cathode, notDriven, carries, listOf, digitOf, partner, place, ruleAt, wireAt}
 use Rattle.wiring.specs.Table.{segmentNumber, wireNumber}
@@ -21,7 +22,8 @@ use Rattle.wiring.proofs.Wired.{wired}
 use Rattle.glyphs.specs.Glyphs.{litBy}
 use Rattle.glyphs.specs.Numbers.{segmentsBy}
 use Rattle.glyphs.proofs.Segments.{segment-by-segment}
-use Rattle.display.specs.Cathode.{displayOf, shownByte, hexMode, fontOf, testOn, dark, lit}
+use Rattle.brightness.specs.Dark.{testOn, dark}
+use Rattle.display.specs.Cathode.{displayOf, shownByte, hexMode, fontOf, lit}
 use Rattle.display.specs.Pins.{pinNumber, pinOf, pinAt, segmentsNumber}
 use Rattle.display.specs.Table.{litSegments, pinBy, tablePin, PinByPin}
 
@@ -114,8 +116,4 @@ pins-dark x d font14 font16 e = tabulate-ext 19 _ _ (λ p hp. rw e)
 
 -- a call that is not refused names a cathode
 pub cathode-lt : (d : ℕ) (font14 font16 : List ℕ) → segmentsNumber d font14 font16 ≡ 0 → d < 8
-cathode-lt d font14 font16 e = go (ltb d 8) refl _ e
-  where
-    go : (b : Bool) → ltb d 8 ≡ b → (n : ℕ) → if b n 6 ≡ 0 → d < 8
-    go true h n e = ltb-true d 8 h
-    go false h n e = absurd (omega (arith, e))
+cathode-lt d font14 font16 e = ltb-true d 8 (passed (ltb d 8) _ 5 e .0)

@@ -1,11 +1,10 @@
 -- Document 01, "Segments and brightness": the display of a cathode, and when a segment of it is lit.
 -- Assumes nothing.
 use Prim.Native.Nat.{ℕ}
-use mathlib.Core.Bool.{Bool, not, _&&_, _||_}
+use mathlib.Core.Bool.{Bool, _||_}
 use mathlib.Core.List.{List}
-use lib.Dec.{ltb}
 use lib.ListN.{getD}
-use Rattle.words.specs.Choice.{if, bit, odd}
+use Rattle.words.specs.Choice.{if, bit}
 use Rattle.digits.specs.Digits.{planeOf}
 use Rattle.device.specs.Steps.{shownPlane}
 use Rattle.device.specs.declared.Device.{Device}
@@ -13,6 +12,7 @@ use Rattle.wiring.specs.Wiring.{Segment, digitOf}
 use Rattle.wiring.specs.declared.Display.{Display}
 use Rattle.wiring.specs.declared.Display.the-variants.{Sixteen, Fourteen, SevenPair}
 use Rattle.glyphs.specs.Glyphs.{litBy}
+use Rattle.brightness.specs.Dark.{testOn}
 
 -- bit d of the digit type set is a 14-segment digit (Tables 12 and 13); clear it is 16- or 7-segment, and bit d of the fitted byte set means a
 -- 7-segment pair
@@ -35,13 +35,6 @@ abbrev pub fontOf : Display → List ℕ → List ℕ → List ℕ
 fontOf Sixteen font14 font16 = font16
 fontOf Fourteen font14 font16 = font14
 fontOf SevenPair font14 font16 = font16
-
-abbrev pub testOn : Device → Bool
-testOn x = odd (x .registers .controls .test)
-
--- with display test off, a cathode is dark in shutdown (S=0) or above the scan limit
-abbrev pub dark : Device → ℕ → Bool
-dark x d = not (testOn x) && (not (odd (x .registers .config .s)) || ltb (x .registers .controls .limit) d)
 
 -- a segment of cathode d is lit: every one in display test, else by the byte of its own digit
 abbrev pub lit : Device → ℕ → List ℕ → List ℕ → Segment → Bool

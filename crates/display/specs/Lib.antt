@@ -1,3 +1,4 @@
 pub mod Cathode
 pub mod Pins
 pub mod Table
+pub mod Examples

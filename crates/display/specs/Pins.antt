@@ -9,7 +9,8 @@ use Rattle.words.specs.Choice.{if}
 use Rattle.words.specs.Lists.{tabulate}
 use Rattle.device.specs.declared.Device.{Device}
 use Rattle.wiring.specs.Wiring.{Segment, none, glyph, point, first, second, Wire, cathode, notDriven, carries, wireAt}
-use Rattle.display.specs.Cathode.{displayOf, dark, lit}
+use Rattle.brightness.specs.Dark.{dark}
+use Rattle.display.specs.Cathode.{displayOf, lit}
 use Rattle.display.specs.declared.Pin.{Pin}
 use Rattle.display.specs.declared.Pin.the-variants.{NotDriven, Cathode, Lit, Unlit, NoSegment}
 use Rattle.display.specs.declared.SegmentAnswer.{SegmentAnswer}

@@ -11,7 +11,8 @@ use Rattle.device.specs.declared.Device.{Device}
 use Rattle.wiring.specs.Table.{entryAt}
 use Rattle.wiring.specs.declared.Display.{Display}
 use Rattle.glyphs.specs.Numbers.{segmentsBy}
-use Rattle.display.specs.Cathode.{displayOf, shownByte, hexMode, fontOf, testOn, dark}
+use Rattle.brightness.specs.Dark.{testOn, dark}
+use Rattle.display.specs.Cathode.{displayOf, shownByte, hexMode, fontOf}
 use Rattle.display.specs.Pins.{pinAt}
 use Rattle.display.specs.declared.Pin.{Pin}
 use Rattle.display.specs.declared.Pin.the-variants.{NotDriven, Cathode, Lit, Unlit, NoSegment}

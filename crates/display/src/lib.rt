@@ -3,14 +3,16 @@ ghost use mathlib.Core.Path.{_≡_};
 ghost use Prim.Native.Nat.{_<_};
 ghost use Rattle.words.specs.Choice.{bit};
 ghost use Rattle.words.specs.Lists.{tabulate};
+ghost use Rattle.blink.specs.Part.{planePart};
+ghost use Rattle.device.specs.Steps.{shownPlane};
 ghost use Rattle.wiring.specs.Wiring.{wireAt};
 ghost use Rattle.wiring.specs.Table.{wireNumber};
-ghost use Rattle.display.specs.Cathode.{displayBy, shownByte, dark};
+ghost use Rattle.display.specs.Cathode.{displayBy, shownByte};
 ghost use Rattle.display.specs.Pins.{pinNumber, segmentsNumber, pinAt, segmentsOf};
 ghost use Rattle.display.specs.Table.{segmentsLit, pinBy, PinByPin};
+ghost use Rattle.display.specs.Examples.{Examples};
 use device::Device;
 use wiring::Display;
-use words::Plane;
 
 // A pin of a cathode.
 pub enum Pin {
@@ -130,21 +132,12 @@ fn byte_shown(device: Device, digit: u8) -> u8
     planes.digit(plane, digit)
 }
 
-// A cathode is dark.
-fn is_dark(device: Device, cathode: usize) -> bool
-    ensures { λ r. ⌜ r ≡ dark device cathode ⌝ }
-{
-    let controls = device.registers.controls;
-    let config = device.registers.config;
-    !(controls.test % 2 == 1) & (!(config.s % 2 == 1) | ((controls.limit as usize) < cathode))
-}
-
 // The pins of a cathode under two glyph tables.
 fn pins_shown(device: Device, cathode: usize, font14: &[u16], font16: &[u16]) -> [u8; 19]
     requires { ⌜ cathode < 8 ⌝ }
     ensures { λ r. ⌜ r ≡ tabulate 19 (λ p. pinNumber (pinAt device cathode (now (font14 .entry)) (now (font16 .entry)) p)) ⌝ }
 {
-    if is_dark(device, cathode) {
+    if brightness::is_dark(device, cathode) {
         return [0; 19];
     }
     let digit = cathode as u8;
@@ -199,7 +192,20 @@ pub fn segments(device: Device, cathode: usize, font14: &[u16], font16: &[u16]) 
     }
 }
 
-// The pins by the wiring table are those pin by pin.
+// Digits first to last of the plane now shown, of two lent planes; the empty part where refused.
+pub fn plane<'a>(device: Device, p0: &'a [u8], p1: &'a [u8], first: usize, last: usize) -> &'a [u8]
+    ensures { λ r. ⌜ now r ≡ planePart (shownPlane device) (now (p0 .entry)) (now (p1 .entry)) first last ⌝ }
+{
+    let shown = device.shown();
+    blink::plane_part(shown, p0, p1, first, last)
+}
+
+// A theorem: the pins by the wiring table are those pin by pin.
 pub fn pin_by_pin()
     ensures { λ _. ⌜ PinByPin ⌝ }
+{}
+
+// A theorem: the bench examples of the display.
+pub fn examples()
+    ensures { λ _. ⌜ Examples ⌝ }
 {}

@@ -58,7 +58,7 @@ pub fn glyph_segments(font: &[u16], byte: u8) -> u32
     }
 }
 
-// Each segment of each display's list is lit where its bit is 1.
+// A theorem: each segment of each display's list is lit where its bit is 1.
 pub fn segment_by_segment()
     ensures { λ _. ⌜ SegmentBySegment ⌝ }
 {}

@@ -502,7 +502,7 @@ pub fn wire(display: Display, cathode: usize, pin: usize) -> u8
     }
 }
 
-// Every entry of the table is what the rule says.
+// A theorem: every entry of the table is what the rule says.
 pub fn wiring_table()
     ensures { λ _. ⌜ WiringTable ⌝ }
 {}

@@ -2,6 +2,7 @@
 -- Assumes nothing.
 use Prim.Native.Nat.{ℕ, suc, _%_}
 use native.Mathlib.Nat.{mod-lt, zero-lt-suc}
+use native.Mathlib.Omega.{arith}
 use mathlib.Core.Bool.{Bool, true, false, _&&_, Bool·beq, true≢false}
 use mathlib.Core.Path.{_≡_, refl, sym}
 use lib.Dec.{ltb}
@@ -22,6 +23,11 @@ same true true t = refl
 same false false t = refl
 same true false t = absurd (true≢false (sym t))
 same false true t = absurd (true≢false (sym t))
+
+-- a test that refuses with a number other than 0 was passed, where the number is 0
+pub passed : (b : Bool) (n r : ℕ) → if b n (suc r) ≡ 0 → (b ≡ true) × (n ≡ 0)
+passed true n r e = (refl, e)
+passed false n r e = absurd (omega (arith, e))
 
 -- a choice of two small numbers is small
 pub if-small : (b : Bool) (m n k : ℕ) → ltb m k ≡ true → ltb n k ≡ true → ltb (if b m n) k ≡ true

@@ -1,33 +1,25 @@
+-- `display::pin_by` meets its contract. Assumes nothing.
 use borrow.Author.Tests.{lt-ltb}
 use Rattle.words.proofs.Tests.{tests}
 use borrow.Author.Needs.{needs}
 use Rattle.display.proofs.pin_by.Statement.{statement}
 use Rattle.display.proofs.pin_by.Tie as tie
-use Rattle.display.proofs.pin_by.Reads as reads
-use Rattle.display.proofs.pin_by.Lts as lts
-use Rattle.display.proofs.bit_at.Reads as bit-at-reads
 
--- src/lib.rt:95:12
 bit-at-requires : tie.Need-bit-at-requires
 bit-at-requires c κs = search needs
 
--- src/lib.rt:91:1
 returns : tie.Need-returns
 returns c = rw (lt-ltb _ _ (c .before .before .if1 .taken), ← c .before .bit-at .ensures, c .if2 .taken)
 
--- src/lib.rt:91:1
 returns-2 : tie.Need-returns-2
 returns-2 c = rw (lt-ltb _ _ (c .before .before .if1 .taken), ← c .before .bit-at .ensures, c .if2 .left)
 
--- src/lib.rt:91:1
 returns-3 : tie.Need-returns-3
 returns-3 c = search tests
 
--- src/lib.rt:91:1
 returns-4 : tie.Need-returns-4
 returns-4 c = search tests
 
--- src/lib.rt:91:1
 returns-5 : tie.Need-returns-5
 returns-5 c = search tests
 

@@ -1,10 +1,8 @@
+-- `display::pin_by_pin` meets its contract. Assumes nothing.
 use Rattle.display.proofs.Wires.{pin-by-pin}
 use Rattle.display.proofs.pin_by_pin.Statement.{statement}
 use Rattle.display.proofs.pin_by_pin.Tie as tie
-use Rattle.display.proofs.pin_by_pin.Reads as reads
-use Rattle.display.proofs.pin_by_pin.Lts as lts
 
--- src/lib.rt:196:1
 returns : tie.Need-returns
 returns c = pin-by-pin
 

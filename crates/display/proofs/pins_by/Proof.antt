@@ -1,3 +1,4 @@
+-- `display::pins_by` meets its contract. Assumes nothing.
 use mathlib.Core.Path.{_≡_, refl, _∙_}
 use mathlib.Core.List.{_++_, append-nil}
 use Prim.Native.Nat.{_≤_, _-_}
@@ -12,11 +13,6 @@ use Rattle.display.specs.Table.{pinBy}
 use borrow.Author.Needs.{needs}
 use Rattle.display.proofs.pins_by.Statement.{statement}
 use Rattle.display.proofs.pins_by.Tie as tie
-use Rattle.display.proofs.pins_by.Reads as reads
-use Rattle.display.proofs.pins_by.Lts as lts
-use Rattle.display.proofs.Pin.number.Reads as number-reads
-use Rattle.display.proofs.pin_by.Reads as pin-by-reads
-use Rattle.wiring.proofs.wire.Reads as wire-reads
 
 abbrev Inv-loop : tie.InvT-loop
 Inv-loop segments display cathode pins₀ p₀ pins p = (p ≤ 19) × (length pins ≡ 19) × (pins ≡ tabulate p (λ q. pinNumber (pinBy segments (wireNumber (wireAt display cathode q)))) ++ drop p pins₀)
@@ -24,35 +20,27 @@ Inv-loop segments display cathode pins₀ p₀ pins p = (p ≤ 19) × (length pi
 abbrev μ-loop : tie.MeasureT-loop
 μ-loop segments display cathode pins₀ p₀ pins p = 19 - p
 
--- src/lib.rt:115:5
 loop-holds : tie.Need-loop-holds Inv-loop μ-loop
 loop-holds c = (omega arith, refl, tabulate-none _ _)
 
--- src/lib.rt:116:13
 wire-requires : tie.Need-wire-requires Inv-loop μ-loop
 wire-requires c κs = search needs
 
--- src/lib.rt:117:13
 pin-by-requires : tie.Need-pin-by-requires Inv-loop μ-loop
 pin-by-requires c κs = search needs
 
--- src/lib.rt:118:19
 number-requires : tie.Need-number-requires Inv-loop μ-loop
 number-requires c κs = search needs
 
--- src/lib.rt:118:9
 array-write-pins : tie.Need-array-write-pins Inv-loop μ-loop
 array-write-pins c = search needs
 
--- src/lib.rt:119:9
 add-p : tie.Need-add-p Inv-loop μ-loop
 add-p c = search needs
 
--- src/lib.rt:115:5
 loop-less : tie.Need-loop-less Inv-loop μ-loop
 loop-less c = omega arith
 
--- src/lib.rt:115:5
 loop-again : tie.Need-loop-again Inv-loop μ-loop
 loop-again c =
     let l = c .before .before .before .before .loop in (
@@ -61,7 +49,6 @@ loop-again c =
       rw (c .number .ensures, c .before .pin-by .ensures, c .before .before .wire .ensures, l .inv .2) (tabulate-more (l .p) _ _ (omega arith)),
     )
 
--- src/lib.rt:110:1
 returns : tie.Need-returns Inv-loop μ-loop
 returns c =
     let l = c .before .loop in

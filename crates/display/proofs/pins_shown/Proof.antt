@@ -1,67 +1,48 @@
-use mathlib.Core.Path.{_≡_, sym, _∙_}
+-- `display::pins_shown` meets its contract. Assumes nothing.
+use mathlib.Core.Path.{sym, _∙_}
 use native.Mathlib.Omega.{arith}
 use Rattle.words.specs.Lists.{tabulate}
 use Rattle.display.proofs.Wires.{pins-dark, pins-lit}
 use borrow.Author.Needs.{needs}
 use Rattle.display.proofs.pins_shown.Statement.{statement}
 use Rattle.display.proofs.pins_shown.Tie as tie
-use Rattle.display.proofs.pins_shown.Reads as reads
-use Rattle.display.proofs.pins_shown.Lts as lts
-use Rattle.display.proofs.bit_at.Reads as bit-at-reads
-use Rattle.display.proofs.byte_shown.Reads as byte-shown-reads
-use Rattle.display.proofs.display_by.Reads as display-by-reads
-use Rattle.display.proofs.is_dark.Reads as is-dark-reads
-use Rattle.display.proofs.pins_by.Reads as pins-by-reads
-use Rattle.display.proofs.segments_lit.Reads as segments-lit-reads
 
--- src/lib.rt:147:8
 is-dark-requires : tie.Need-is-dark-requires
 is-dark-requires c κs = search needs
 
--- src/lib.rt:148:9
 returns : tie.Need-returns
 unfolding tabulate
 returns c =
     let a = c .before .before .before .before .args in
     pins-dark (a .device) (a .cathode) (a .font14 .now) (a .font16 .now) (sym (c .before .is-dark .ensures) ∙ c .if1 .taken)
 
--- src/lib.rt:150:17
 cast-digit : tie.Need-cast-digit
 cast-digit c = search needs
 
--- src/lib.rt:151:9
 byte-shown-requires : tie.Need-byte-shown-requires
 byte-shown-requires c κs = search needs
 
--- src/lib.rt:152:32
 add-byte-shown : tie.Need-add-byte-shown
 add-byte-shown c = search needs
 
--- src/lib.rt:152:9
 byte-shown-requires-2 : tie.Need-byte-shown-requires-2
 byte-shown-requires-2 c κs = search needs
 
--- src/lib.rt:154:9
 display-by-requires : tie.Need-display-by-requires
 display-by-requires c κs = search needs
 
--- src/lib.rt:155:22
 cast-bit-at : tie.Need-cast-bit-at
 cast-bit-at c = search needs
 
--- src/lib.rt:155:9
 bit-at-requires : tie.Need-bit-at-requires
 bit-at-requires c κs = search needs
 
--- src/lib.rt:156:9
 segments-lit-requires : tie.Need-segments-lit-requires
 segments-lit-requires c κs = search needs
 
--- src/lib.rt:165:5
 pins-by-requires : tie.Need-pins-by-requires
 pins-by-requires c κs = search needs
 
--- src/lib.rt:143:1
 returns-2 : tie.Need-returns-2
 returns-2 c =
     let a = c .before .before .before .before .before .before .before .before .before .before .before .before .before .args in

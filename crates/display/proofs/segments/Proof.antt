@@ -1,3 +1,4 @@
+-- `display::segments` meets its contract. Assumes nothing.
 use Rattle.words.specs.Lists.{tabulate}
 use borrow.Author.Tests.{ne-eqb}
 use mathlib.Core.Path.{sym, _∙_}
@@ -5,26 +6,18 @@ use Rattle.display.proofs.Wires.{cathode-lt}
 use borrow.Author.Needs.{needs}
 use Rattle.display.proofs.segments.Statement.{statement}
 use Rattle.display.proofs.segments.Tie as tie
-use Rattle.display.proofs.segments.Reads as reads
-use Rattle.display.proofs.segments.Lts as lts
-use Rattle.display.proofs.pins_shown.Reads as pins-shown-reads
-use Rattle.display.proofs.segments_number.Reads as segments-number-reads
 
--- src/lib.rt:180:9
 segments-number-requires : tie.Need-segments-number-requires
 segments-number-requires c κs = search needs
 
--- src/lib.rt:182:13
 pins-shown-requires : tie.Need-pins-shown-requires
 pins-shown-requires c κs =
     let a = c .before .before .before .before .args in
     cathode-lt (a .cathode) (a .font14 .now) (a .font16 .now) (sym (c .before .segments-number .ensures) ∙ c .if1 .taken)
 
--- src/lib.rt:177:1
 returns : tie.Need-returns
 returns c = rw (c .pins-shown .ensures, c .before .before .segments-number .ensures, sym (c .before .before .segments-number .ensures) ∙ c .before .if1 .taken)
 
--- src/lib.rt:177:1
 returns-2 : tie.Need-returns-2
 unfolding tabulate
 returns-2 c = rw (← c .before .segments-number .ensures, ne-eqb _ _ (c .if1 .left))

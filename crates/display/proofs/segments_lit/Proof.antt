@@ -1,49 +1,35 @@
-use Rattle.words.proofs.Tests.{tests}
+-- `display::segments_lit` meets its contract. Assumes nothing.
 use borrow.Author.Needs.{needs}
 use Rattle.display.proofs.segments_lit.Statement.{statement}
 use Rattle.display.proofs.segments_lit.Tie as tie
-use Rattle.display.proofs.segments_lit.Reads as reads
-use Rattle.display.proofs.segments_lit.Lts as lts
-use Rattle.glyphs.proofs.glyph_segments.Reads as glyph-segments-reads
-use Rattle.glyphs.proofs.pair_segments.Reads as pair-segments-reads
 
--- src/lib.rt:81:9
 returns : tie.Need-returns
 returns c = search needs
 
--- src/lib.rt:84:29
 enum-told : tie.Need-enum-told
 enum-told c = search needs
 
--- src/lib.rt:84:29
 glyph-segments-requires : tie.Need-glyph-segments-requires
 glyph-segments-requires c κs = search needs
 
--- src/lib.rt:85:30
 enum-told-2 : tie.Need-enum-told-2
 enum-told-2 c = search needs
 
--- src/lib.rt:85:30
 glyph-segments-requires-2 : tie.Need-glyph-segments-requires-2
 glyph-segments-requires-2 c κs = search needs
 
--- src/lib.rt:86:31
 enum-told-3 : tie.Need-enum-told-3
 enum-told-3 c = search needs
 
--- src/lib.rt:86:31
 pair-segments-requires : tie.Need-pair-segments-requires
 pair-segments-requires c κs = search needs
 
--- src/lib.rt:69:1
 returns-2 : tie.Need-returns-2
 returns-2 c = rw (c .before .before .before .if1 .left) (simp (c .before .enum-told .given .1, c .glyph-segments .ensures))
 
--- src/lib.rt:69:1
 returns-3 : tie.Need-returns-3
 returns-3 c = rw (c .before .before .before .if1 .left) (simp (c .before .enum-told2 .given .1, c .glyph-segments2 .ensures))
 
--- src/lib.rt:69:1
 returns-4 : tie.Need-returns-4
 returns-4 c = rw (c .before .before .before .if1 .left) (simp (c .before .enum-told3 .given .1, c .pair-segments .ensures))
 

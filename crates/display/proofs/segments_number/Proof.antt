@@ -1,22 +1,17 @@
+-- `display::segments_number` meets its contract. Assumes nothing.
 use Rattle.words.proofs.Tests.{tests}
 use Rattle.display.proofs.segments_number.Statement.{statement}
 use Rattle.display.proofs.segments_number.Tie as tie
-use Rattle.display.proofs.segments_number.Reads as reads
-use Rattle.display.proofs.segments_number.Lts as lts
 
--- src/lib.rt:162:1
 returns : tie.Need-returns
 returns c = search tests
 
--- src/lib.rt:162:1
 returns-2 : tie.Need-returns-2
 returns-2 c = search tests
 
--- src/lib.rt:162:1
 returns-3 : tie.Need-returns-3
 returns-3 c = search tests
 
--- src/lib.rt:162:1
 returns-4 : tie.Need-returns-4
 returns-4 c = search tests
 

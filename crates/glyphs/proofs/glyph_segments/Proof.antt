@@ -1,3 +1,4 @@
+-- `glyphs::glyph_segments` meets its contract. Assumes nothing.
 use mathlib.Core.Path.{refl}
 use Rattle.words.proofs.Arrays.{past}
 use native.Mathlib.Omega.{arith}
@@ -5,42 +6,31 @@ use Prim.Native.Nat.{_%_}
 use borrow.Author.Needs.{needs}
 use Rattle.glyphs.proofs.glyph_segments.Statement.{statement}
 use Rattle.glyphs.proofs.glyph_segments.Tie as tie
-use Rattle.glyphs.proofs.glyph_segments.Reads as reads
-use Rattle.glyphs.proofs.glyph_segments.Lts as lts
 
--- src/lib.rt:50:13
 cast-k : tie.Need-cast-k
 cast-k c = search needs
 
--- src/lib.rt:51:17
 cast-point : tie.Need-cast-point
 cast-point c = search needs
 
--- src/lib.rt:51:17
 mul-point : tie.Need-mul-point
 mul-point c = search needs
 
--- src/lib.rt:53:17
 mul-result : tie.Need-mul-result
 mul-result c = search needs
 
--- src/lib.rt:53:17
 shared-slice-read-result : tie.Need-shared-slice-read-result
 shared-slice-read-result c = search needs
 
--- src/lib.rt:53:17
 cast-result : tie.Need-cast-result
 cast-result c = omega (arith, c .shared-slice-known .given (c .before .before .args .byte % 128))
 
--- src/lib.rt:53:9
 add-result : tie.Need-add-result
 add-result c = omega (arith, c .shared-slice-known .given (c .before .before .args .byte % 128))
 
--- src/lib.rt:47:1
 returns : tie.Need-returns
 returns c = search needs
 
--- src/lib.rt:47:1
 returns-2 : tie.Need-returns-2
 returns-2 c =
     let a = c .before .args in

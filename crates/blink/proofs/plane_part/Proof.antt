@@ -1,0 +1,72 @@
+-- `blink::plane_part` meets its contract. Assumes nothing.
+use native.Mathlib.Omega.{arith}
+use mathlib.Core.Path.{sym, _∙_}
+use borrow.Author.Tests.{ne-eqb}
+use Rattle.blink.proofs.Part.{Served, served}
+use borrow.Author.Needs.{needs}
+use Rattle.blink.proofs.plane_part.Statement.{statement}
+use Rattle.blink.proofs.plane_part.Tie as tie
+
+given : (c : tie.Else1) → Served (c .before .before .before .before .args .p0 .now) (c .before .before .before .before .args .p1 .now) (c .before .before .before .before .args .first) (c .before .before .before .before .args .last)
+given c = served _ _ _ _ (sym (c .before .plane-number .ensures) ∙ c .if1 .left)
+
+plane-number-requires : tie.Need-plane-number-requires
+plane-number-requires c κs = search needs
+
+slice-aggregate-result : tie.Need-slice-aggregate-result
+slice-aggregate-result c = search needs
+
+returns : tie.Need-returns
+returns c = rw (← c .before .before .plane-number .ensures, ne-eqb _ _ (c .before .if1 .taken))
+
+add-end : tie.Need-add-end
+add-end c = omega (arith, given c .digits)
+
+enum-told : tie.Need-enum-told
+enum-told c = search needs
+
+sub-result : tie.Need-sub-result
+sub-result c = omega (arith, given (c .before .before) .range)
+
+part-result-start : tie.Need-part-result-start
+part-result-start c = omega (arith, given (c .before .before) .range)
+
+part-result-end : tie.Need-part-result-end
+part-result-end c = omega (arith, given (c .before .before) .digits, given (c .before .before) .length0)
+
+enum-told-2 : tie.Need-enum-told-2
+enum-told-2 c = search needs
+
+sub-result-2 : tie.Need-sub-result-2
+sub-result-2 c = omega (arith, given (c .before .before) .range)
+
+part-result-start-2 : tie.Need-part-result-start-2
+part-result-start-2 c = omega (arith, given (c .before .before) .range)
+
+part-result-end-2 : tie.Need-part-result-end-2
+part-result-end-2 c = omega (arith, given (c .before .before) .digits, given (c .before .before) .length1)
+
+returns-2 : tie.Need-returns-2
+returns-2 c = rw (← c .before .before .before .before .plane-number .ensures, c .before .before .before .if1 .left) (simp (c .before .enum-told .given .1))
+
+returns-3 : tie.Need-returns-3
+returns-3 c = rw (← c .before .before .before .before .plane-number .ensures, c .before .before .before .if1 .left) (simp (c .before .enum-told2 .given .1))
+
+pub plane-part-spec : {M : Type 1} → statement M
+plane-part-spec =
+    tie.close
+    (tie.spec
+    plane-number-requires
+    slice-aggregate-result
+    returns
+    add-end
+    enum-told
+    sub-result
+    part-result-start
+    part-result-end
+    enum-told-2
+    sub-result-2
+    part-result-start-2
+    part-result-end-2
+    returns-2
+    returns-3)

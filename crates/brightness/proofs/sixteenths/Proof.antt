@@ -1,0 +1,19 @@
+-- `brightness::sixteenths` meets its contract. Assumes nothing.
+use Prim.Native.Nat.{_+_}
+use native.Mathlib.Omega.{arith}
+use borrow.Author.Tests.{lt-ltb, le-ltb}
+use borrow.Author.Needs.{needs}
+use Rattle.brightness.proofs.sixteenths.Statement.{statement}
+use Rattle.brightness.proofs.sixteenths.Tie as tie
+
+add-result : tie.Need-add-result
+add-result c = search needs
+
+returns : tie.Need-returns
+returns c = rw (lt-ltb (c .before .args .v + 1) 15 (omega arith))
+
+returns-2 : tie.Need-returns-2
+returns-2 c = rw (le-ltb (c .before .args .v + 1) 15 (omega arith))
+
+pub sixteenths-spec : {M : Type 1} → statement M
+sixteenths-spec = tie.close (tie.spec add-result returns returns-2)

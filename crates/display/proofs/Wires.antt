@@ -105,7 +105,7 @@ module _ (x : Device) (d : ℕ) (font14 font16 : List ℕ)
       tabulate-ext 19 _ _ (λ p hp. rw (bright, e, es, lt-ltb d 8 hd, lt-ltb p 19 hp) (ap pinNumber (rule-pin p hp)))
 
   pub table-pin : (p : ℕ) → p < 19 → tablePin x d font14 font16 p ≡ pinAt x d font14 font16 p
-  table-pin p hp = rw (wired k d p hd hp, lt-ltb d 8 hd, lt-ltb p 19 hp, rule-pin p hp)
+  table-pin p hp = rw (wired .entries k d p hd hp, lt-ltb d 8 hd, lt-ltb p 19 hp, rule-pin p hp)
 
 pub pin-by-pin : PinByPin
 pin-by-pin x d font14 font16 p first-byte second-byte words14 words16 hd hp = table-pin x d font14 font16 first-byte second-byte words14 words16 hd p hp

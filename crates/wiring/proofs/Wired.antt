@@ -1,27 +1,63 @@
 -- The table obeys the rule, by one test that is computed over its 456 entries.
 -- Assumes nothing.
 use Prim.Native.Nat.{ℕ, _<_}
-use mathlib.Core.Bool.{Bool, true}
+use mathlib.Core.Bool.{Bool, true, _&&_}
 use mathlib.Core.Path.{_≡_, refl}
 use lib.Dec.{eqb}
+use lib.ListN.{getD}
 use borrow.Author.Tests.{eqb-true, lt-ltb}
 use Rattle.words.proofs.Below.{all, all-at}
-use Rattle.wiring.specs.Wiring.{ruleAt, wireAt}
-use Rattle.wiring.specs.Table.{wireNumber, entryAt, WiringTable}
+use Rattle.words.proofs.Truth.{and-left, and-right}
+use Rattle.wiring.specs.Wiring.{none, cathode, notDriven, listOf, partner, ruleAt, wireAt}
+use Rattle.wiring.specs.Table.{segmentNumber, wireNumber, entryAt, others, WiringTable}
 use Rattle.wiring.specs.declared.Display.{Display}
 use Rattle.wiring.specs.declared.Display.the-variants.{Sixteen, Fourteen, SevenPair}
 
-abbrev right : Display → ℕ → ℕ → Bool
-right k d p = eqb (entryAt k d p) (wireNumber (ruleAt k d p))
+module _ (k : Display) (d : ℕ) where
+  unfoldable own : Bool
+  own = eqb (entryAt k d d) (wireNumber cathode)
 
-tested : (k : Display) → all (λ d. all (right k d) 19) 8 ≡ true
+  unfoldable next : Bool
+  next = eqb (entryAt k d (partner d)) (wireNumber notDriven)
+
+  unfoldable listed : ℕ → Bool
+  listed r = eqb (entryAt k d (getD (others d) r 0)) (segmentNumber (getD (listOf k) r none))
+
+  unfoldable ruled : ℕ → Bool
+  ruled p = eqb (entryAt k d p) (wireNumber (ruleAt k d p))
+
+  abbrev row : Bool
+  row = own && (next && (all listed 17 && all ruled 19))
+
+tested : (k : Display) → all (row k) 8 ≡ true
+unfolding own next listed ruled
 tested Sixteen = refl
 tested Fourteen = refl
 tested SevenPair = refl
 
+module _ (k : Display) (d : ℕ) (h : d < 8) where
+  rest : (next k d && (all (listed k d) 17 && all (ruled k d) 19)) ≡ true
+  rest = and-right (own k d) _ (all-at (row k) 8 (tested k) d h)
+
+  cathode-at : entryAt k d d ≡ wireNumber cathode
+  unfolding own
+  cathode-at = eqb-true _ _ (and-left (own k d) _ (all-at (row k) 8 (tested k) d h))
+
+  partner-at : entryAt k d (partner d) ≡ wireNumber notDriven
+  unfolding next
+  partner-at = eqb-true _ _ (and-left (next k d) _ rest)
+
+  segments-at : (r : ℕ) → r < 17 → entryAt k d (getD (others d) r 0) ≡ segmentNumber (getD (listOf k) r none)
+  unfolding listed
+  segments-at r l = eqb-true _ _ (all-at (listed k d) 17 (and-left (all (listed k d) 17) _ (and-right (next k d) _ rest)) r l)
+
+  entry-at : (p : ℕ) → p < 19 → entryAt k d p ≡ wireNumber (ruleAt k d p)
+  unfolding ruled
+  entry-at p l = eqb-true _ _ (all-at (ruled k d) 19 (and-right (all (listed k d) 17) _ (and-right (next k d) _ rest)) p l)
+
 pub wired : WiringTable
-wired k d p hd hp = eqb-true _ _ (all-at (right k d) 19 (all-at (λ e. all (right k e) 19) 8 (tested k) d hd) p hp)
+wired = record { cathodes = cathode-at; partners = partner-at; segments = λ k d r h. segments-at k d h r; entries = λ k d p h. entry-at k d h p }
 
 -- the same where the rule is asked for any cathode and pin
 pub wired-at : (k : Display) (d p : ℕ) → d < 8 → p < 19 → entryAt k d p ≡ wireNumber (wireAt k d p)
-wired-at k d p hd hp = rw (lt-ltb d 8 hd, lt-ltb p 19 hp) (wired k d p hd hp)
+wired-at k d p hd hp = rw (lt-ltb d 8 hd, lt-ltb p 19 hp) (entry-at k d hd p hp)

@@ -1,10 +1,13 @@
 -- Document 01, "Segments and brightness": the wiring as one table of 456 entries, row for row Tables 2 to 4.
 -- Assumes nothing.
 use Prim.Native.Nat.{ℕ, _+_, _*_, _<_}
+use mathlib.Core.Bool.{_||_}
 use mathlib.Core.List.{List, [], _∷_, _++_}
 use mathlib.Core.Path.{_≡_}
+use lib.Dec.{eqb}
 use lib.ListN.{getD}
-use Rattle.wiring.specs.Wiring.{Segment, none, glyph, point, first, second, Wire, cathode, notDriven, carries, ruleAt}
+use Rattle.words.specs.Choice.{if}
+use Rattle.wiring.specs.Wiring.{Segment, none, glyph, point, first, second, Wire, cathode, notDriven, carries, listOf, partner, ruleAt}
 use Rattle.wiring.specs.declared.Display.{Display}
 use Rattle.wiring.specs.declared.Display.the-variants.{Sixteen, Fourteen, SevenPair}
 
@@ -73,6 +76,18 @@ wires = sixteenWires ++ fourteenWires ++ pairWires
 abbrev pub entryAt : Display → ℕ → ℕ → ℕ
 entryAt k d p = getD wires (displayNumber k * 152 + d * 19 + p) 0
 
--- the table obeys the rule
-abbrev pub WiringTable : Type 0
-WiringTable = (k : Display) (d p : ℕ) → d < 8 → p < 19 → entryAt k d p ≡ wireNumber (ruleAt k d p)
+-- the pins but the cathode's and its partner's, in rising order
+abbrev pub othersOf : ℕ → List ℕ → List ℕ
+othersOf d [] = []
+othersOf d (p ∷ ps) = if (eqb p d || eqb p (partner d)) (othersOf d ps) (p ∷ othersOf d ps)
+
+abbrev pub others : ℕ → List ℕ
+others d = othersOf d (0 ∷ 1 ∷ 2 ∷ 3 ∷ 4 ∷ 5 ∷ 6 ∷ 7 ∷ 8 ∷ 9 ∷ 10 ∷ 11 ∷ 12 ∷ 13 ∷ 14 ∷ 15 ∷ 16 ∷ 17 ∷ 18 ∷ [])
+
+-- the table obeys the rule: pin d is the cathode, its partner isn't driven, the other 17 in rising order carry the display's list; and so it
+-- is at each entry
+pub record WiringTable : Type 0 where
+  pub cathodes : (k : Display) (d : ℕ) → d < 8 → entryAt k d d ≡ wireNumber cathode
+  pub partners : (k : Display) (d : ℕ) → d < 8 → entryAt k d (partner d) ≡ wireNumber notDriven
+  pub segments : (k : Display) (d r : ℕ) → d < 8 → r < 17 → entryAt k d (getD (others d) r 0) ≡ segmentNumber (getD (listOf k) r none)
+  pub entries : (k : Display) (d p : ℕ) → d < 8 → p < 19 → entryAt k d p ≡ wireNumber (ruleAt k d p)

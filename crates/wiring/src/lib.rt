@@ -15,7 +15,7 @@ pub enum Display {
 // 15 to 0 are a1 (or a) to m and 16 is dp; of a 7-segment pair 7 to 0 are 1dp 1a 1b 1c 1d 1e 1f 1g, and 15 to 8 the same of 2. 17 is none, 18
 // the cathode, 19 not driven.
 const WIRING: [u8; 456] = [
-    18, // 16-segment CC0 O0
+    18, // 16-segment CC0 O0 cathode
     19, // 16-segment CC0 O1 not driven
     15, // 16-segment CC0 O2 a1
     14, // 16-segment CC0 O3 a2
@@ -35,7 +35,7 @@ const WIRING: [u8; 456] = [
     0, // 16-segment CC0 O17 m
     16, // 16-segment CC0 O18 dp
     19, // 16-segment CC1 O0 not driven
-    18, // 16-segment CC1 O1
+    18, // 16-segment CC1 O1 cathode
     15, // 16-segment CC1 O2 a1
     14, // 16-segment CC1 O3 a2
     13, // 16-segment CC1 O4 b
@@ -55,7 +55,7 @@ const WIRING: [u8; 456] = [
     16, // 16-segment CC1 O18 dp
     15, // 16-segment CC2 O0 a1
     14, // 16-segment CC2 O1 a2
-    18, // 16-segment CC2 O2
+    18, // 16-segment CC2 O2 cathode
     19, // 16-segment CC2 O3 not driven
     13, // 16-segment CC2 O4 b
     12, // 16-segment CC2 O5 c
@@ -75,7 +75,7 @@ const WIRING: [u8; 456] = [
     15, // 16-segment CC3 O0 a1
     14, // 16-segment CC3 O1 a2
     19, // 16-segment CC3 O2 not driven
-    18, // 16-segment CC3 O3
+    18, // 16-segment CC3 O3 cathode
     13, // 16-segment CC3 O4 b
     12, // 16-segment CC3 O5 c
     11, // 16-segment CC3 O6 d1
@@ -95,7 +95,7 @@ const WIRING: [u8; 456] = [
     14, // 16-segment CC4 O1 a2
     13, // 16-segment CC4 O2 b
     12, // 16-segment CC4 O3 c
-    18, // 16-segment CC4 O4
+    18, // 16-segment CC4 O4 cathode
     19, // 16-segment CC4 O5 not driven
     11, // 16-segment CC4 O6 d1
     10, // 16-segment CC4 O7 d2
@@ -115,7 +115,7 @@ const WIRING: [u8; 456] = [
     13, // 16-segment CC5 O2 b
     12, // 16-segment CC5 O3 c
     19, // 16-segment CC5 O4 not driven
-    18, // 16-segment CC5 O5
+    18, // 16-segment CC5 O5 cathode
     11, // 16-segment CC5 O6 d1
     10, // 16-segment CC5 O7 d2
     9, // 16-segment CC5 O8 e
@@ -135,7 +135,7 @@ const WIRING: [u8; 456] = [
     12, // 16-segment CC6 O3 c
     11, // 16-segment CC6 O4 d1
     10, // 16-segment CC6 O5 d2
-    18, // 16-segment CC6 O6
+    18, // 16-segment CC6 O6 cathode
     19, // 16-segment CC6 O7 not driven
     9, // 16-segment CC6 O8 e
     8, // 16-segment CC6 O9 f
@@ -155,7 +155,7 @@ const WIRING: [u8; 456] = [
     11, // 16-segment CC7 O4 d1
     10, // 16-segment CC7 O5 d2
     19, // 16-segment CC7 O6 not driven
-    18, // 16-segment CC7 O7
+    18, // 16-segment CC7 O7 cathode
     9, // 16-segment CC7 O8 e
     8, // 16-segment CC7 O9 f
     7, // 16-segment CC7 O10 g1
@@ -167,7 +167,7 @@ const WIRING: [u8; 456] = [
     1, // 16-segment CC7 O16 l
     0, // 16-segment CC7 O17 m
     16, // 16-segment CC7 O18 dp
-    18, // 14-segment CC0 O0
+    18, // 14-segment CC0 O0 cathode
     19, // 14-segment CC0 O1 not driven
     15, // 14-segment CC0 O2 a
     17, // 14-segment CC0 O3 none
@@ -187,7 +187,7 @@ const WIRING: [u8; 456] = [
     0, // 14-segment CC0 O17 m
     16, // 14-segment CC0 O18 dp
     19, // 14-segment CC1 O0 not driven
-    18, // 14-segment CC1 O1
+    18, // 14-segment CC1 O1 cathode
     15, // 14-segment CC1 O2 a
     17, // 14-segment CC1 O3 none
     13, // 14-segment CC1 O4 b
@@ -207,7 +207,7 @@ const WIRING: [u8; 456] = [
     16, // 14-segment CC1 O18 dp
     15, // 14-segment CC2 O0 a
     17, // 14-segment CC2 O1 none
-    18, // 14-segment CC2 O2
+    18, // 14-segment CC2 O2 cathode
     19, // 14-segment CC2 O3 not driven
     13, // 14-segment CC2 O4 b
     12, // 14-segment CC2 O5 c
@@ -227,7 +227,7 @@ const WIRING: [u8; 456] = [
     15, // 14-segment CC3 O0 a
     17, // 14-segment CC3 O1 none
     19, // 14-segment CC3 O2 not driven
-    18, // 14-segment CC3 O3
+    18, // 14-segment CC3 O3 cathode
     13, // 14-segment CC3 O4 b
     12, // 14-segment CC3 O5 c
     11, // 14-segment CC3 O6 d
@@ -247,7 +247,7 @@ const WIRING: [u8; 456] = [
     17, // 14-segment CC4 O1 none
     13, // 14-segment CC4 O2 b
     12, // 14-segment CC4 O3 c
-    18, // 14-segment CC4 O4
+    18, // 14-segment CC4 O4 cathode
     19, // 14-segment CC4 O5 not driven
     11, // 14-segment CC4 O6 d
     17, // 14-segment CC4 O7 none
@@ -267,7 +267,7 @@ const WIRING: [u8; 456] = [
     13, // 14-segment CC5 O2 b
     12, // 14-segment CC5 O3 c
     19, // 14-segment CC5 O4 not driven
-    18, // 14-segment CC5 O5
+    18, // 14-segment CC5 O5 cathode
     11, // 14-segment CC5 O6 d
     17, // 14-segment CC5 O7 none
     9, // 14-segment CC5 O8 e
@@ -287,7 +287,7 @@ const WIRING: [u8; 456] = [
     12, // 14-segment CC6 O3 c
     11, // 14-segment CC6 O4 d
     17, // 14-segment CC6 O5 none
-    18, // 14-segment CC6 O6
+    18, // 14-segment CC6 O6 cathode
     19, // 14-segment CC6 O7 not driven
     9, // 14-segment CC6 O8 e
     8, // 14-segment CC6 O9 f
@@ -307,7 +307,7 @@ const WIRING: [u8; 456] = [
     11, // 14-segment CC7 O4 d
     17, // 14-segment CC7 O5 none
     19, // 14-segment CC7 O6 not driven
-    18, // 14-segment CC7 O7
+    18, // 14-segment CC7 O7 cathode
     9, // 14-segment CC7 O8 e
     8, // 14-segment CC7 O9 f
     7, // 14-segment CC7 O10 g1
@@ -319,7 +319,7 @@ const WIRING: [u8; 456] = [
     1, // 14-segment CC7 O16 l
     0, // 14-segment CC7 O17 m
     16, // 14-segment CC7 O18 dp
-    18, // 7-segment CC0 O0
+    18, // 7-segment CC0 O0 cathode
     19, // 7-segment CC0 O1 not driven
     6, // 7-segment CC0 O2 1a
     17, // 7-segment CC0 O3 none
@@ -339,7 +339,7 @@ const WIRING: [u8; 456] = [
     8, // 7-segment CC0 O17 2g
     15, // 7-segment CC0 O18 2dp
     19, // 7-segment CC1 O0 not driven
-    18, // 7-segment CC1 O1
+    18, // 7-segment CC1 O1 cathode
     6, // 7-segment CC1 O2 1a
     17, // 7-segment CC1 O3 none
     5, // 7-segment CC1 O4 1b
@@ -359,7 +359,7 @@ const WIRING: [u8; 456] = [
     15, // 7-segment CC1 O18 2dp
     6, // 7-segment CC2 O0 1a
     17, // 7-segment CC2 O1 none
-    18, // 7-segment CC2 O2
+    18, // 7-segment CC2 O2 cathode
     19, // 7-segment CC2 O3 not driven
     5, // 7-segment CC2 O4 1b
     4, // 7-segment CC2 O5 1c
@@ -379,7 +379,7 @@ const WIRING: [u8; 456] = [
     6, // 7-segment CC3 O0 1a
     17, // 7-segment CC3 O1 none
     19, // 7-segment CC3 O2 not driven
-    18, // 7-segment CC3 O3
+    18, // 7-segment CC3 O3 cathode
     5, // 7-segment CC3 O4 1b
     4, // 7-segment CC3 O5 1c
     3, // 7-segment CC3 O6 1d
@@ -399,7 +399,7 @@ const WIRING: [u8; 456] = [
     17, // 7-segment CC4 O1 none
     5, // 7-segment CC4 O2 1b
     4, // 7-segment CC4 O3 1c
-    18, // 7-segment CC4 O4
+    18, // 7-segment CC4 O4 cathode
     19, // 7-segment CC4 O5 not driven
     3, // 7-segment CC4 O6 1d
     7, // 7-segment CC4 O7 1dp
@@ -419,7 +419,7 @@ const WIRING: [u8; 456] = [
     5, // 7-segment CC5 O2 1b
     4, // 7-segment CC5 O3 1c
     19, // 7-segment CC5 O4 not driven
-    18, // 7-segment CC5 O5
+    18, // 7-segment CC5 O5 cathode
     3, // 7-segment CC5 O6 1d
     7, // 7-segment CC5 O7 1dp
     2, // 7-segment CC5 O8 1e
@@ -439,7 +439,7 @@ const WIRING: [u8; 456] = [
     4, // 7-segment CC6 O3 1c
     3, // 7-segment CC6 O4 1d
     7, // 7-segment CC6 O5 1dp
-    18, // 7-segment CC6 O6
+    18, // 7-segment CC6 O6 cathode
     19, // 7-segment CC6 O7 not driven
     2, // 7-segment CC6 O8 1e
     1, // 7-segment CC6 O9 1f
@@ -459,7 +459,7 @@ const WIRING: [u8; 456] = [
     3, // 7-segment CC7 O4 1d
     7, // 7-segment CC7 O5 1dp
     19, // 7-segment CC7 O6 not driven
-    18, // 7-segment CC7 O7
+    18, // 7-segment CC7 O7 cathode
     2, // 7-segment CC7 O8 1e
     1, // 7-segment CC7 O9 1f
     0, // 7-segment CC7 O10 1g

@@ -1,4 +1,4 @@
--- A list given by its elements: filled from the front, and read.
+-- A list given by its elements, and filled from the front.
 -- Assumes nothing.
 use Prim.Native.Nat.{ℕ, zero, suc, _+_, _<_}
 use native.Mathlib.Numerals.{add-one}

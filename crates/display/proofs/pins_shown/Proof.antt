@@ -45,20 +45,23 @@ pins-by-requires c κs = search needs
 
 returns-2 : tie.Need-returns-2
 returns-2 c =
-    let a = c .before .before .before .before .before .before .before .before .before .before .before .before .before .args in
-    let byte = c .before .before .before .before .before .before .before .before .byte-shown in
-    let byte-a = c .before .before .before .before .before .before .before .byte-shown2 in
-    let display = c .before .before .before .before .before .display-by .ensures in
+    let shown = c .before .before .before .before .before in
+    let bytes = shown .before .before .before in
+    let start = bytes .before .before .before .before .before in
+    let a = start .args in
+    let byte = bytes .byte-shown in
+    let byte-a = shown .before .before .byte-shown2 in
+    let display = shown .display-by .ensures in
     c .pins-by .ensures
     ∙ pins-lit (a .device) (a .cathode) (a .font14 .now) (a .font16 .now)
     (omega (arith, byte .ok, byte .ensures))
     (omega (arith, byte-a .ok, byte-a .ensures))
-    (λ i. c .before .before .before .before .before .before .before .before .before .before .before .before .shared-slice-known .given i .fits)
-    (λ i. c .before .before .before .before .before .before .before .before .before .before .before .shared-slice-known2 .given i .fits)
-    (c .before .before .before .before .before .before .before .before .before .before .before .before .before .pre)
+    (λ i. bytes .before .before .before .before .shared-slice-known .given i .fits)
+    (λ i. bytes .before .before .before .shared-slice-known2 .given i .fits)
+    (start .pre)
     _
     _
-    (sym (c .before .before .before .before .before .before .before .before .before .before .is-dark .ensures) ∙ c .before .before .before .before .before .before .before .before .before .if1 .left)
+    (sym (bytes .before .before .is-dark .ensures) ∙ bytes .before .if1 .left)
     display
     (c .before .segments-lit .ensures ∙ rw (byte .ensures, byte-a .ensures, display, c .before .before .before .bit-at .ensures))
 

@@ -11,7 +11,7 @@ use borrow.Author.Tests.{lt-ltb, ltb-true}
 use Rattle.words.specs.Choice.{if, bit}
 use Rattle.words.specs.Lists.{tabulate}
 use Rattle.words.proofs.Below.{all, all-at}
-use Rattle.words.proofs.Lists.{tabulate-ext}
+use Rattle.words.proofs.Lists.{getD-tabulate, tabulate-ext}
 use Rattle.words.proofs.Truth.{passed}
 use Rattle.device.specs.declared.Device.{Device}
 use Rattle.wiring.specs.Wiring.{Segment, none, glyph, point, first, second, cathode, notDriven, carries, listOf, digitOf, partner, place, ruleAt, wireAt}
@@ -25,7 +25,7 @@ use Rattle.glyphs.proofs.Segments.{segment-by-segment}
 use Rattle.brightness.specs.Dark.{testOn, dark}
 use Rattle.display.specs.Cathode.{displayOf, shownByte, hexMode, fontOf, lit}
 use Rattle.display.specs.Pins.{pinNumber, pinOf, pinAt, segmentsNumber}
-use Rattle.display.specs.Table.{litSegments, pinBy, tablePin, PinByPin}
+use Rattle.display.specs.Table.{allSegments, litSegments, pinBy, tablePin, PinByPin}
 
 -- a pin's place is one of the list's
 place-lt : (d p : ℕ) → d < 8 → p < 19 → place d p < 17
@@ -36,8 +36,8 @@ place-lt d p hd hp = go (ltb p d) refl
     go false e = omega arith
 
 -- in display test every segment's bit is set
-in-test : (t : Bool) (n segments : ℕ) (on : Bool) → ltb n 17 ≡ true → bit n segments ≡ on → bit n (if t 0x1FFFF segments) ≡ (t || on)
-in-test true n segments on h e = all-at (λ k. bit k 0x1FFFF) 17 refl n (ltb-true n 17 h)
+in-test : (t : Bool) (n segments : ℕ) (on : Bool) → ltb n 17 ≡ true → bit n segments ≡ on → bit n (if t allSegments segments) ≡ (t || on)
+in-test true n segments on h e = all-at (λ k. bit k allSegments) 17 refl n (ltb-true n 17 h)
 in-test false n segments on h e = e
 
 -- none, or a segment with a bit
@@ -54,7 +54,7 @@ listed Fourteen = refl
 listed SevenPair = refl
 
 module _ (t : Bool) (segments : ℕ) (on : Segment → Bool) where
-  shown : (s : Segment) → numbered s ≡ true → bit (segmentNumber s) segments ≡ on s → pinBy (if t 0x1FFFF segments) (segmentNumber s) ≡ pinOf (λ q. t || on q) (carries s)
+  shown : (s : Segment) → numbered s ≡ true → bit (segmentNumber s) segments ≡ on s → pinBy (if t allSegments segments) (segmentNumber s) ≡ pinOf (λ q. t || on q) (carries s)
   shown none h e = refl
   shown (glyph n) h e = rw (h, in-test t n segments (on (glyph n)) h e)
   shown point h e = rw (in-test t 16 segments (on point) refl e)
@@ -63,7 +63,7 @@ module _ (t : Bool) (segments : ℕ) (on : Segment → Bool) where
 
   -- the cathode and its partner carry no segment
   wired-pin : (b c : Bool) (s : Segment) → numbered s ≡ true → bit (segmentNumber s) segments ≡ on s
-      → pinBy (if t 0x1FFFF segments) (wireNumber (if b cathode (if c notDriven (carries s)))) ≡ pinOf (λ q. t || on q) (if b cathode (if c notDriven (carries s)))
+      → pinBy (if t allSegments segments) (wireNumber (if b cathode (if c notDriven (carries s)))) ≡ pinOf (λ q. t || on q) (if b cathode (if c notDriven (carries s)))
   wired-pin true c s h e = refl
   wired-pin false true s h e = refl
   wired-pin false false s h e = shown s h e
@@ -99,10 +99,12 @@ module _ (x : Device) (d : ℕ) (font14 font16 : List ℕ)
       (segment-by-segment k (hexMode x d) font (shownByte x) d (place d p) first-byte second-byte (font-words k font14 font16 words14 words16) h)
 
   -- the pins of a cathode that is not dark
-  pub pins-lit : (segments : ℕ) (r : Display) → dark x d ≡ false → r ≡ k → segments ≡ litSegments x d font14 font16
-      → tabulate 19 (λ p. pinNumber (pinBy segments (wireNumber (wireAt r d p)))) ≡ tabulate 19 (λ p. pinNumber (pinAt x d font14 font16 p))
-  pins-lit segments r bright e es =
-      tabulate-ext 19 _ _ (λ p hp. rw (bright, e, es, lt-ltb d 8 hd, lt-ltb p 19 hp) (ap pinNumber (rule-pin p hp)))
+  pub pins-lit : (segments : ℕ) (r : Display) (wires : List ℕ) → dark x d ≡ false → r ≡ k → segments ≡ litSegments x d font14 font16
+      → wires ≡ tabulate 19 (λ p. wireNumber (wireAt r d p))
+      → tabulate 19 (λ p. pinNumber (pinBy segments (getD wires p 0))) ≡ tabulate 19 (λ p. pinNumber (pinAt x d font14 font16 p))
+  pins-lit segments r wires bright e es ew =
+      tabulate-ext 19 _ _
+      (λ p hp. rw (ew, getD-tabulate {A = ℕ} 19 (λ q. wireNumber (wireAt r d q)) 0 p hp, bright, e, es, lt-ltb d 8 hd, lt-ltb p 19 hp) (ap pinNumber (rule-pin p hp)))
 
   pub table-pin : (p : ℕ) → p < 19 → tablePin x d font14 font16 p ≡ pinAt x d font14 font16 p
   table-pin p hp = rw (wired .entries k d p hd hp, lt-ltb d 8 hd, lt-ltb p 19 hp, rule-pin p hp)

@@ -17,13 +17,17 @@ use Rattle.display.specs.Pins.{pinAt}
 use Rattle.display.specs.declared.Pin.{Pin}
 use Rattle.display.specs.declared.Pin.the-variants.{NotDriven, Cathode, Lit, Unlit, NoSegment}
 
--- the lit segments as one number; in display test all seventeen bits
-abbrev pub segmentsLit : Bool → Display → Bool → List ℕ → List ℕ → ℕ → ℕ → ℕ
-segmentsLit test k hex font14 font16 v a = if test 0x1FFFF (segmentsBy k hex (fontOf k font14 font16) v a)
+-- seventeen bits: every segment that a display may have
+abbrev pub allSegments : ℕ
+allSegments = 0x1FFFF
+
+-- the lit segments of a cathode as one number, by the bytes that its digits show; all in display test
+abbrev pub shownSegments : Bool → Display → Bool → List ℕ → List ℕ → ℕ → ℕ → ℕ
+shownSegments test k hex font14 font16 v a = if test allSegments (segmentsBy k hex (fontOf k font14 font16) v a)
 
 abbrev pub litSegments : Device → ℕ → List ℕ → List ℕ → ℕ
 litSegments x d font14 font16 =
-    segmentsLit (testOn x) (displayOf x d) (hexMode x d) font14 font16 (shownByte x d) (shownByte x (d + 8))
+    shownSegments (testOn x) (displayOf x d) (hexMode x d) font14 font16 (shownByte x d) (shownByte x (d + 8))
 
 -- a pin by its entry of the wiring table
 abbrev pub pinBy : ℕ → ℕ → Pin

@@ -1,15 +1,14 @@
 // What a cathode of one MAX6954 shows.
 ghost use mathlib.Core.Path.{_≡_};
 ghost use Prim.Native.Nat.{_<_};
+ghost use lib.ListN.{getD};
 ghost use Rattle.words.specs.Choice.{bit};
 ghost use Rattle.words.specs.Lists.{tabulate};
 ghost use Rattle.blink.specs.Part.{planePart};
 ghost use Rattle.device.specs.Steps.{shownPlane};
-ghost use Rattle.wiring.specs.Wiring.{wireAt};
-ghost use Rattle.wiring.specs.Table.{wireNumber};
 ghost use Rattle.display.specs.Cathode.{displayBy, shownByte};
 ghost use Rattle.display.specs.Pins.{pinNumber, segmentsNumber, pinAt, segmentsOf};
-ghost use Rattle.display.specs.Table.{segmentsLit, pinBy, PinByPin};
+ghost use Rattle.display.specs.Table.{shownSegments, pinBy, PinByPin};
 ghost use Rattle.display.specs.Examples.{Examples};
 use device::Device;
 use wiring::Display;
@@ -45,6 +44,9 @@ pub struct SegmentAnswer {
     pub pins: [u8; 19],
 }
 
+// Seventeen bits: every segment that a display may have.
+const ALL_SEGMENTS: u32 = 0x1FFFF;
+
 // Bit k of v is 1.
 fn bit_at(v: u32, k: usize) -> bool
     requires { ⌜ k < 32 ⌝ }
@@ -68,7 +70,7 @@ fn display_by(types: u8, fitted: u8, cathode: usize) -> Display
 }
 
 // The lit segments of a cathode, by the bytes that its digits show.
-fn segments_lit(
+fn shown_segments(
     test: bool,
     display: Display,
     hex: bool,
@@ -77,10 +79,10 @@ fn segments_lit(
     byte: u8,
     a: u8,
 ) -> u32
-    ensures { λ r. ⌜ r ≡ segmentsLit test display hex (now (font14 .entry)) (now (font16 .entry)) byte a ⌝ }
+    ensures { λ r. ⌜ r ≡ shownSegments test display hex (now (font14 .entry)) (now (font16 .entry)) byte a ⌝ }
 {
     if test {
-        return 0x1FFFF;
+        return ALL_SEGMENTS;
     }
     match display {
         Display::Sixteen => glyphs::glyph_segments(font16, byte),
@@ -99,23 +101,23 @@ fn pin_by(segments: u32, entry: u8) -> Pin
         } else {
             Pin::Unlit
         }
-    } else if entry == 17 {
+    } else if entry == wiring::NONE {
         Pin::NoSegment
-    } else if entry == 18 {
+    } else if entry == wiring::CATHODE {
         Pin::Cathode
     } else {
         Pin::NotDriven
     }
 }
 
-// The pins of a cathode by the wiring table.
-fn pins_by(segments: u32, display: Display, cathode: usize) -> [u8; 19]
-    ensures { λ r. ⌜ r ≡ tabulate 19 (λ p. pinNumber (pinBy segments (wireNumber (wireAt display cathode p)))) ⌝ }
+// The pins of a cathode by its row of the wiring table.
+fn pins_by(segments: u32, wires: [u8; 19]) -> [u8; 19]
+    ensures { λ r. ⌜ r ≡ tabulate 19 (λ p. pinNumber (pinBy segments (getD wires p 0))) ⌝ }
 {
     let mut pins = [0; 19];
     let mut p = 0;
     while p < 19 {
-        let entry = wiring::wire(display, cathode, p);
+        let entry = wires[p];
         let pin = pin_by(segments, entry);
         pins[p] = pin.number();
         p += 1;
@@ -146,7 +148,7 @@ fn pins_shown(device: Device, cathode: usize, font14: &[u16], font16: &[u16]) ->
     let controls = device.registers.controls;
     let display = display_by(controls.types, device.fitted, cathode);
     let hex = bit_at(controls.decode as u32, cathode);
-    let segments = segments_lit(
+    let segments = shown_segments(
         controls.test % 2 == 1,
         display,
         hex,
@@ -155,7 +157,8 @@ fn pins_shown(device: Device, cathode: usize, font14: &[u16], font16: &[u16]) ->
         byte,
         a,
     );
-    pins_by(segments, display, cathode)
+    let wires = wiring::wires(display, cathode);
+    pins_by(segments, wires)
 }
 
 // 6 for a cathode above 7 or a glyph table not 128 long, else 0.

@@ -1,15 +1,17 @@
 -- The table obeys the rule, by one test that is computed over its 456 entries.
 -- Assumes nothing.
-use Prim.Native.Nat.{ℕ, _<_}
+use Prim.Native.Nat.{ℕ, _+_, _*_, _<_, _≤_}
 use mathlib.Core.Bool.{Bool, true, _&&_}
 use mathlib.Core.Path.{_≡_, refl}
 use lib.Dec.{eqb}
 use lib.ListN.{getD}
-use borrow.Author.Tests.{eqb-true, lt-ltb}
+use borrow.Author.Tests.{eqb-true, lt-ltb, le-ltb}
+use Rattle.words.specs.Lists.{tabulate}
 use Rattle.words.proofs.Below.{all, all-at}
+use Rattle.words.proofs.Lists.{tabulate-ext}
 use Rattle.words.proofs.Truth.{and-left, and-right}
 use Rattle.wiring.specs.Wiring.{none, cathode, notDriven, listOf, partner, ruleAt, wireAt}
-use Rattle.wiring.specs.Table.{segmentNumber, wireNumber, entryAt, others, WiringTable}
+use Rattle.wiring.specs.Table.{segmentNumber, wireNumber, displayNumber, wires, entryAt, others, WiringTable}
 use Rattle.wiring.specs.declared.Display.{Display}
 use Rattle.wiring.specs.declared.Display.the-variants.{Sixteen, Fourteen, SevenPair}
 
@@ -58,6 +60,10 @@ module _ (k : Display) (d : ℕ) (h : d < 8) where
 pub wired : WiringTable
 wired = record { cathodes = cathode-at; partners = partner-at; segments = λ k d r h. segments-at k d h r; entries = λ k d p h. entry-at k d h p }
 
--- the same where the rule is asked for any cathode and pin
-pub wired-at : (k : Display) (d p : ℕ) → d < 8 → p < 19 → entryAt k d p ≡ wireNumber (wireAt k d p)
-wired-at k d p hd hp = rw (lt-ltb d 8 hd, lt-ltb p 19 hp) (entry-at k d hd p hp)
+-- the row of a cathode, and of a number that is none
+pub wired-row : (k : Display) (d n : ℕ) → d < 8 → n ≡ displayNumber k → tabulate 19 (λ p. getD wires (n * 152 + d * 19 + p) 0) ≡ tabulate 19 (λ p. wireNumber (wireAt k d p))
+wired-row k d n hd e =
+    tabulate-ext 19 _ _ (λ p hp. rw (e, lt-ltb d 8 hd, lt-ltb p 19 hp) (entry-at k d hd p hp))
+
+pub no-row : (k : Display) (d : ℕ) → 8 ≤ d → tabulate 19 (λ p. wireNumber notDriven) ≡ tabulate 19 (λ p. wireNumber (wireAt k d p))
+no-row k d h = tabulate-ext 19 _ _ (λ p hp. rw (le-ltb d 8 h))

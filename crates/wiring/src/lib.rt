@@ -1,8 +1,10 @@
 // The segment pins O0 to O18 of each cathode (Tables 2 to 4).
 ghost use mathlib.Core.Path.{_≡_};
-ghost use Prim.Native.Nat.{_<_};
+ghost use Prim.Native.Nat.{_+_, _<_, _≤_};
+ghost use lib.ListN.{getD};
+ghost use Rattle.words.specs.Lists.{tabulate};
 ghost use Rattle.wiring.specs.Wiring.{wireAt};
-ghost use Rattle.wiring.specs.Table.{displayNumber, wireNumber, WiringTable};
+ghost use Rattle.wiring.specs.Table.{displayNumber, wireNumber, wires, WiringTable};
 
 // What a cathode drives: a 16-segment digit, a 14-segment digit or two 7-segment digits.
 pub enum Display {
@@ -10,6 +12,13 @@ pub enum Display {
     Fourteen,
     SevenPair,
 }
+
+// Entries of the table that are no segment.
+pub const NONE: u8 = 17;
+
+pub const CATHODE: u8 = 18;
+
+pub const NOT_DRIVEN: u8 = 19;
 
 // What a pin carries, for three displays by eight cathodes by nineteen pins. A segment is the number of its bit: of a 14- or 16-segment digit
 // 15 to 0 are a1 (or a) to m and 16 is dp; of a 7-segment pair 7 to 0 are 1dp 1a 1b 1c 1d 1e 1f 1g, and 15 to 8 the same of 2. 17 is none, 18
@@ -485,20 +494,31 @@ fn display_number(display: Display) -> usize
     }
 }
 
-// What a pin carries, by its number in the table; a cathode above 7 and a pin above 18 are not driven.
-pub fn wire(display: Display, cathode: usize, pin: usize) -> u8
-    ensures { λ r. ⌜ r ≡ wireNumber (wireAt display cathode pin) ⌝ }
+// Nineteen entries of the table from one on. The table is copied once for all of them.
+fn entries(start: usize) -> [u8; 19]
+    requires { ⌜ start + 19 ≤ 456 ⌝ }
+    ensures { λ r. ⌜ r ≡ tabulate 19 (λ p. getD wires (start + p) 0) ⌝ }
+{
+    let table = WIRING;
+    let mut row = [NOT_DRIVEN; 19];
+    let mut p = 0;
+    while p < 19 {
+        let n = start + p;
+        row[p] = table[n];
+        p += 1;
+    }
+    row
+}
+
+// What the pins O0 to O18 are to a cathode, by their numbers in the table; a cathode above 7 drives none.
+pub fn wires(display: Display, cathode: usize) -> [u8; 19]
+    ensures { λ r. ⌜ r ≡ tabulate 19 (λ p. wireNumber (wireAt display cathode p)) ⌝ }
 {
     if cathode < 8 {
-        if pin < 19 {
-            let k = display_number(display);
-            let n = k * 152 + cathode * 19 + pin;
-            WIRING[n]
-        } else {
-            19
-        }
+        let k = display_number(display);
+        entries(k * 152 + cathode * 19)
     } else {
-        19
+        [NOT_DRIVEN; 19]
     }
 }
 

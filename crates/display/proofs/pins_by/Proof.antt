@@ -1,30 +1,28 @@
--- `display::pins_by` meets its contract. Assumes nothing.
-use mathlib.Core.Path.{_≡_, refl, _∙_}
-use mathlib.Core.List.{_++_, append-nil}
-use Prim.Native.Nat.{_≤_, _-_}
+-- `display::pins_by` meets its contract. The invariant: p pins are written, and the rest is as it was. Assumes nothing.
+use Prim.Native.Nat.{_-_, _≤_}
 use native.Mathlib.Omega.{arith}
-use lib.ListN.{length, drop, length-set}
+use mathlib.Core.List.{_++_, append-nil}
+use mathlib.Core.Path.{_≡_, refl, _∙_}
+use lib.ListN.{length, drop, getD, length-set}
+use borrow.Author.Needs.{needs}
 use Rattle.words.specs.Lists.{tabulate}
 use Rattle.words.proofs.Lists.{tabulate-none, tabulate-more}
-use Rattle.wiring.specs.Wiring.{wireAt}
-use Rattle.wiring.specs.Table.{wireNumber}
 use Rattle.display.specs.Pins.{pinNumber}
 use Rattle.display.specs.Table.{pinBy}
-use borrow.Author.Needs.{needs}
 use Rattle.display.proofs.pins_by.Statement.{statement}
 use Rattle.display.proofs.pins_by.Tie as tie
 
 abbrev Inv-loop : tie.InvT-loop
-Inv-loop segments display cathode pins₀ p₀ pins p = (p ≤ 19) × (length pins ≡ 19) × (pins ≡ tabulate p (λ q. pinNumber (pinBy segments (wireNumber (wireAt display cathode q)))) ++ drop p pins₀)
+Inv-loop segments wires pins₀ p₀ pins p = (p ≤ 19) × (length pins ≡ 19) × (pins ≡ tabulate p (λ q. pinNumber (pinBy segments (getD wires q 0))) ++ drop p pins₀)
 
 abbrev μ-loop : tie.MeasureT-loop
-μ-loop segments display cathode pins₀ p₀ pins p = 19 - p
+μ-loop segments wires pins₀ p₀ pins p = 19 - p
 
 loop-holds : tie.Need-loop-holds Inv-loop μ-loop
 loop-holds c = (omega arith, refl, tabulate-none _ _)
 
-wire-requires : tie.Need-wire-requires Inv-loop μ-loop
-wire-requires c κs = search needs
+array-read-entry : tie.Need-array-read-entry Inv-loop μ-loop
+array-read-entry c = search needs
 
 pin-by-requires : tie.Need-pin-by-requires Inv-loop μ-loop
 pin-by-requires c κs = search needs
@@ -43,10 +41,10 @@ loop-less c = omega arith
 
 loop-again : tie.Need-loop-again Inv-loop μ-loop
 loop-again c =
-    let l = c .before .before .before .before .loop in (
+    let l = c .before .before .before .loop in (
       omega arith,
       simp length-set (l .inv .1),
-      rw (c .number .ensures, c .before .pin-by .ensures, c .before .before .wire .ensures, l .inv .2) (tabulate-more (l .p) _ _ (omega arith)),
+      rw (c .number .ensures, c .before .pin-by .ensures, l .inv .2) (tabulate-more (l .p) _ _ (omega arith)),
     )
 
 returns : tie.Need-returns Inv-loop μ-loop
@@ -62,7 +60,7 @@ pins-by-spec =
     Inv-loop
     μ-loop
     loop-holds
-    wire-requires
+    array-read-entry
     pin-by-requires
     number-requires
     array-write-pins

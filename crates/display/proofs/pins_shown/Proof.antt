@@ -37,15 +37,19 @@ cast-bit-at c = search needs
 bit-at-requires : tie.Need-bit-at-requires
 bit-at-requires c κs = search needs
 
-segments-lit-requires : tie.Need-segments-lit-requires
-segments-lit-requires c κs = search needs
+shown-segments-requires : tie.Need-shown-segments-requires
+shown-segments-requires c κs = search needs
+
+wires-requires : tie.Need-wires-requires
+wires-requires c κs = search needs
 
 pins-by-requires : tie.Need-pins-by-requires
 pins-by-requires c κs = search needs
 
 returns-2 : tie.Need-returns-2
 returns-2 c =
-    let shown = c .before .before .before .before .before in
+    let lit = c .before .before in
+    let shown = lit .before .before .before .before in
     let bytes = shown .before .before .before in
     let start = bytes .before .before .before .before .before in
     let a = start .args in
@@ -61,9 +65,11 @@ returns-2 c =
     (start .pre)
     _
     _
+    _
     (sym (bytes .before .before .is-dark .ensures) ∙ bytes .before .if1 .left)
     display
-    (c .before .segments-lit .ensures ∙ rw (byte .ensures, byte-a .ensures, display, c .before .before .before .bit-at .ensures))
+    (lit .shown-segments .ensures ∙ rw (byte .ensures, byte-a .ensures, display, lit .before .before .bit-at .ensures))
+    (c .before .wires .ensures)
 
 pub pins-shown-spec : {M : Type 1} → statement M
 pins-shown-spec =
@@ -78,6 +84,7 @@ pins-shown-spec =
     display-by-requires
     cast-bit-at
     bit-at-requires
-    segments-lit-requires
+    shown-segments-requires
+    wires-requires
     pins-by-requires
     returns-2)

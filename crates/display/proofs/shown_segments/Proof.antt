@@ -1,7 +1,7 @@
--- `display::segments_lit` meets its contract. Assumes nothing.
+-- `display::shown_segments` meets its contract. Assumes nothing.
 use borrow.Author.Needs.{needs}
-use Rattle.display.proofs.segments_lit.Statement.{statement}
-use Rattle.display.proofs.segments_lit.Tie as tie
+use Rattle.display.proofs.shown_segments.Statement.{statement}
+use Rattle.display.proofs.shown_segments.Tie as tie
 
 returns : tie.Need-returns
 returns c = search needs
@@ -33,8 +33,8 @@ returns-3 c = rw (c .before .before .before .if1 .left) (simp (c .before .enum-t
 returns-4 : tie.Need-returns-4
 returns-4 c = rw (c .before .before .before .if1 .left) (simp (c .before .enum-told3 .given .1, c .pair-segments .ensures))
 
-pub segments-lit-spec : {M : Type 1} → statement M
-segments-lit-spec =
+pub shown-segments-spec : {M : Type 1} → statement M
+shown-segments-spec =
     tie.close
     (tie.spec
     returns

@@ -2,7 +2,7 @@
 -- Assumes nothing.
 use Prim.Native.Nat.{ℕ, _+_, _-_, _<_}
 use native.Mathlib.Omega.{arith}
-use mathlib.Core.Bool.{Bool, true, false, _||_}
+use mathlib.Core.Bool.{Bool, true, false, _&&_, _||_}
 use mathlib.Core.List.{List}
 use mathlib.Core.Path.{_≡_, refl, ap}
 use lib.Dec.{eqb, ltb}
@@ -14,7 +14,7 @@ use Rattle.words.proofs.Below.{all, all-at}
 use Rattle.words.proofs.Lists.{getD-tabulate, tabulate-ext}
 use Rattle.words.proofs.Truth.{passed}
 use Rattle.device.specs.declared.Device.{Device}
-use Rattle.wiring.specs.Wiring.{Segment, none, glyph, point, first, second, cathode, notDriven, carries, listOf, digitOf, partner, place, ruleAt, wireAt}
+use Rattle.wiring.specs.Wiring.{Segment, isSegment, none, glyph, point, first, second, cathode, notDriven, carries, listOf, digitOf, partner, place, ruleAt, wireAt}
 use Rattle.wiring.specs.Table.{segmentNumber, wireNumber}
 use Rattle.wiring.specs.declared.Display.{Display}
 use Rattle.wiring.specs.declared.Display.the-variants.{Sixteen, Fourteen, SevenPair}
@@ -25,6 +25,7 @@ use Rattle.glyphs.proofs.Segments.{segment-by-segment}
 use Rattle.brightness.specs.Dark.{testOn, dark}
 use Rattle.display.specs.Cathode.{displayOf, shownByte, hexMode, fontOf, lit}
 use Rattle.display.specs.Pins.{pinNumber, pinOf, pinAt, segmentsNumber}
+use Rattle.display.specs.declared.Pin.the-variants.{Lit, Unlit}
 use Rattle.display.specs.Table.{allSegments, litSegments, pinBy, tablePin, PinByPin}
 
 -- a pin's place is one of the list's
@@ -35,10 +36,10 @@ place-lt d p hd hp = go (ltb p d) refl
     go true e = omega (arith, ltb-true p d e)
     go false e = omega arith
 
--- in display test every segment's bit is set
-in-test : (t : Bool) (n segments : ℕ) (on : Bool) → ltb n 17 ≡ true → bit n segments ≡ on → bit n (if t allSegments segments) ≡ (t || on)
-in-test true n segments on h e = all-at (λ k. bit k allSegments) 17 refl n (ltb-true n 17 h)
-in-test false n segments on h e = e
+-- a pin that carries a segment is lit where the segment's bit is set, as all are in display test
+bit-pin : (t : Bool) (n segments : ℕ) (on : Bool) → ltb n 17 ≡ true → bit n segments ≡ on → pinBy (if t allSegments segments) n ≡ if (t || on) Lit Unlit
+bit-pin true n segments on h e = rw (h, all-at (λ k. bit k allSegments) 17 refl n (ltb-true n 17 h))
+bit-pin false n segments on h e = rw (h, e)
 
 -- none, or a segment with a bit
 abbrev numbered : Segment → Bool
@@ -54,16 +55,16 @@ listed Fourteen = refl
 listed SevenPair = refl
 
 module _ (t : Bool) (segments : ℕ) (on : Segment → Bool) where
-  shown : (s : Segment) → numbered s ≡ true → bit (segmentNumber s) segments ≡ on s → pinBy (if t allSegments segments) (segmentNumber s) ≡ pinOf (λ q. t || on q) (carries s)
+  shown : (s : Segment) → numbered s ≡ true → bit (segmentNumber s) segments ≡ on s → pinBy (if t allSegments segments) (segmentNumber s) ≡ pinOf (λ q. isSegment q && (t || on q)) (carries s)
   shown none h e = refl
-  shown (glyph n) h e = rw (h, in-test t n segments (on (glyph n)) h e)
-  shown point h e = rw (in-test t 16 segments (on point) refl e)
-  shown (first n) h e = rw (h, in-test t n segments (on (first n)) h e)
-  shown (second n) h e = rw (h, in-test t (n + 8) segments (on (second n)) h e)
+  shown (glyph n) h e = bit-pin t n segments _ h e
+  shown point h e = bit-pin t 16 segments _ h e
+  shown (first n) h e = bit-pin t n segments _ h e
+  shown (second n) h e = bit-pin t (n + 8) segments _ h e
 
   -- the cathode and its partner carry no segment
   wired-pin : (b c : Bool) (s : Segment) → numbered s ≡ true → bit (segmentNumber s) segments ≡ on s
-      → pinBy (if t allSegments segments) (wireNumber (if b cathode (if c notDriven (carries s)))) ≡ pinOf (λ q. t || on q) (if b cathode (if c notDriven (carries s)))
+      → pinBy (if t allSegments segments) (wireNumber (if b cathode (if c notDriven (carries s)))) ≡ pinOf (λ q. isSegment q && (t || on q)) (if b cathode (if c notDriven (carries s)))
   wired-pin true c s h e = refl
   wired-pin false true s h e = refl
   wired-pin false false s h e = shown s h e

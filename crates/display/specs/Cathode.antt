@@ -1,14 +1,14 @@
 -- Document 01, "Segments and brightness": the display of a cathode, and when a segment of it is lit.
 -- Assumes nothing.
 use Prim.Native.Nat.{ℕ}
-use mathlib.Core.Bool.{Bool, _||_}
+use mathlib.Core.Bool.{Bool, _&&_, _||_}
 use mathlib.Core.List.{List}
 use lib.ListN.{getD}
 use Rattle.words.specs.Choice.{if, bit}
 use Rattle.digits.specs.Digits.{planeOf}
 use Rattle.device.specs.Steps.{shownPlane}
 use Rattle.device.specs.declared.Device.{Device}
-use Rattle.wiring.specs.Wiring.{Segment, digitOf}
+use Rattle.wiring.specs.Wiring.{Segment, isSegment, digitOf}
 use Rattle.wiring.specs.declared.Display.{Display}
 use Rattle.wiring.specs.declared.Display.the-variants.{Sixteen, Fourteen, SevenPair}
 use Rattle.glyphs.specs.Glyphs.{litBy}
@@ -30,13 +30,13 @@ shownByte x i = getD (planeOf (x .registers .planes) (shownPlane x)) i 0
 abbrev pub hexMode : Device → ℕ → Bool
 hexMode x d = bit d (x .registers .controls .decode)
 
--- one lent table for each display
+-- one lent table for each display; a 7-segment pair uses neither
 abbrev pub fontOf : Display → List ℕ → List ℕ → List ℕ
 fontOf Sixteen font14 font16 = font16
 fontOf Fourteen font14 font16 = font14
 fontOf SevenPair font14 font16 = font16
 
--- a segment of cathode d is lit: every one in display test, else by the byte of its own digit
+-- a segment of cathode d is lit: every one in display test, else by the byte of its own digit; none is no segment
 abbrev pub lit : Device → ℕ → List ℕ → List ℕ → Segment → Bool
 lit x d font14 font16 s =
-    testOn x || litBy (hexMode x d) (fontOf (displayOf x d) font14 font16) (shownByte x (digitOf d s)) s
+    isSegment s && (testOn x || litBy (hexMode x d) (fontOf (displayOf x d) font14 font16) (shownByte x (digitOf d s)) s)

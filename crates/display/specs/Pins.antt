@@ -1,14 +1,14 @@
 -- Document 01, "Segments and brightness" and number 6: the pins O0 to O18 of a cathode, pin by pin.
 -- Assumes nothing.
 use Prim.Native.Nat.{ℕ}
-use mathlib.Core.Bool.{Bool, _&&_}
+use mathlib.Core.Bool.{Bool}
 use mathlib.Core.List.{List}
 use lib.Dec.{eqb, ltb}
 use lib.ListN.{length}
 use Rattle.words.specs.Choice.{if}
 use Rattle.words.specs.Lists.{tabulate}
 use Rattle.device.specs.declared.Device.{Device}
-use Rattle.wiring.specs.Wiring.{Segment, none, glyph, point, first, second, Wire, cathode, notDriven, carries, wireAt}
+use Rattle.wiring.specs.Wiring.{Segment, isSegment, Wire, cathode, notDriven, carries, wireAt}
 use Rattle.brightness.specs.Dark.{dark}
 use Rattle.display.specs.Cathode.{displayOf, lit}
 use Rattle.display.specs.declared.Pin.{Pin}
@@ -27,11 +27,7 @@ pinNumber NoSegment = 4
 abbrev pub pinOf : (Segment → Bool) → Wire → Pin
 pinOf on cathode = Cathode
 pinOf on notDriven = NotDriven
-pinOf on (carries none) = NoSegment
-pinOf on (carries (glyph n)) = if (on (glyph n)) Lit Unlit
-pinOf on (carries point) = if (on point) Lit Unlit
-pinOf on (carries (first n)) = if (on (first n)) Lit Unlit
-pinOf on (carries (second n)) = if (on (second n)) Lit Unlit
+pinOf on (carries s) = if (isSegment s) (if (on s) Lit Unlit) NoSegment
 
 -- a pin of cathode d; none is driven where the cathode is dark
 abbrev pub pinAt : Device → ℕ → List ℕ → List ℕ → ℕ → Pin

@@ -1,7 +1,7 @@
 -- Document 01, "Segments and brightness": the pins of a cathode (Tables 2 to 4).
 -- Assumes nothing.
 use Prim.Native.Nat.{ℕ, _+_, _-_}
-use mathlib.Core.Bool.{_&&_}
+use mathlib.Core.Bool.{Bool, true, false}
 use mathlib.Core.List.{List, [], _∷_}
 use lib.Dec.{eqb, ltb}
 use lib.ListN.{getD}
@@ -17,6 +17,13 @@ pub data Segment : Type 0 where
   point : Segment
   first : ℕ → Segment
   second : ℕ → Segment
+
+abbrev pub isSegment : Segment → Bool
+isSegment none = false
+isSegment (glyph n) = true
+isSegment point = true
+isSegment (first n) = true
+isSegment (second n) = true
 
 -- a 16-segment digit's list: a1 a2 b c d1 d2 e f g1 g2 h i j k l m dp; a glyph word's bit 15 down to 0 are a1 to m
 abbrev pub sixteen : List Segment

@@ -5,18 +5,17 @@ use native.Mathlib.Omega.{arith}
 use mathlib.Core.Bool.{Bool, true, false, true≢false}
 use mathlib.Core.List.{List}
 use mathlib.Core.Path.{_≡_, refl, ap, sym, _∙_}
-use lib.Dec.{eqb, ltb}
+use lib.Dec.{ltb}
 use lib.ListN.{getD}
 use borrow.Author.Tests.{ltb-true}
 use Rattle.words.specs.Choice.{bit}
-use Rattle.words.proofs.Below.{all, all-at}
+use Rattle.words.proofs.Below.{all-at}
 use Rattle.words.proofs.Bits.{low-bit, high-bit}
 use Rattle.wiring.specs.Wiring.{Segment, none, glyph, point, first, second, sixteen, fourteen, pair, digitOf}
 use Rattle.wiring.specs.Table.{segmentNumber}
-use Rattle.wiring.specs.declared.Display.{Display}
 use Rattle.wiring.specs.declared.Display.the-variants.{Sixteen, Fourteen, SevenPair}
 use Rattle.glyphs.specs.Glyphs.{litBy}
-use Rattle.glyphs.specs.Numbers.{sevenSegments, pairSegments, glyphSegments, segmentsBy, SegmentBySegment}
+use Rattle.glyphs.specs.Numbers.{sevenSegments, pairSegments, glyphSegments, SegmentBySegment}
 use Rattle.glyphs.proofs.Hex.{seven-small, seven-lit}
 
 -- a bit below w of x * 2 ^ w + y, and one from w on
@@ -31,19 +30,19 @@ none-above : (x : ℕ) → x / 2 ^ 17 ≡ 0 → bit 17 x ≡ false
 none-above x e = high-bit 17 0 x ∙ ap (bit 0) e
 
 -- a segment of a 14- or 16-segment digit, and one of a 7-segment pair
-abbrev wordly : Segment → Bool
-wordly none = true
-wordly (glyph n) = ltb n 16
-wordly point = true
-wordly (first n) = false
-wordly (second n) = false
+abbrev word-segment : Segment → Bool
+word-segment none = true
+word-segment (glyph n) = ltb n 16
+word-segment point = true
+word-segment (first n) = false
+word-segment (second n) = false
 
-abbrev paired : Segment → Bool
-paired none = true
-paired (glyph n) = false
-paired point = false
-paired (first n) = ltb n 8
-paired (second n) = ltb n 8
+abbrev pair-segment : Segment → Bool
+pair-segment none = true
+pair-segment (glyph n) = false
+pair-segment point = false
+pair-segment (first n) = ltb n 8
+pair-segment (second n) = ltb n 8
 
 module _ (hex : Bool) (font : List ℕ) (byte : ℕ → ℕ) (d : ℕ) (hd : byte d < 256) (ha : byte (d + 8) < 256) (words : (i : ℕ) → getD font i 0 < 65536) where
   abbrev lit : Segment → Bool
@@ -52,12 +51,12 @@ module _ (hex : Bool) (font : List ℕ) (byte : ℕ → ℕ) (d : ℕ) (hd : byt
   abbrev word : ℕ
   word = getD font (byte d % 128) 0
 
-  of-glyph : (s : Segment) → wordly s ≡ true → bit (segmentNumber s) (glyphSegments font (byte d)) ≡ lit s
+  of-glyph : (s : Segment) → word-segment s ≡ true → bit (segmentNumber s) (glyphSegments font (byte d)) ≡ lit s
   of-glyph none e = none-above (byte d / 128 * 65536 + word) (omega (arith, words (byte d % 128), hd))
   of-glyph (glyph n) e = below 16 n (byte d / 128) word (ltb-true n 16 e) (omega (arith, words (byte d % 128)))
+  of-glyph point e = above 16 0 (byte d / 128) word (omega (arith, words (byte d % 128))) ∙ sym (high-bit 7 0 (byte d))
   of-glyph (first n) e = absurd (true≢false (sym e))
   of-glyph (second n) e = absurd (true≢false (sym e))
-  of-glyph point e = above 16 0 (byte d / 128) word (omega (arith, words (byte d % 128))) ∙ sym (high-bit 7 0 (byte d))
 
   abbrev seven : ℕ → ℕ
   seven i = sevenSegments hex (byte i)
@@ -65,7 +64,7 @@ module _ (hex : Bool) (font : List ℕ) (byte : ℕ → ℕ) (d : ℕ) (hd : byt
   small : seven d < 256
   small = seven-small hex (byte d) hd
 
-  of-pair : (s : Segment) → paired s ≡ true → bit (segmentNumber s) (pairSegments hex (byte d) (byte (d + 8))) ≡ lit s
+  of-pair : (s : Segment) → pair-segment s ≡ true → bit (segmentNumber s) (pairSegments hex (byte d) (byte (d + 8))) ≡ lit s
   of-pair none e = none-above (seven (d + 8) * 256 + seven d) (omega (arith, small, seven-small hex (byte (d + 8)) ha))
   of-pair (glyph n) e = absurd (true≢false (sym e))
   of-pair point e = absurd (true≢false (sym e))
@@ -76,8 +75,8 @@ module _ (hex : Bool) (font : List ℕ) (byte : ℕ → ℕ) (d : ℕ) (hd : byt
 
 pub segment-by-segment : SegmentBySegment
 segment-by-segment Sixteen hex font byte d r hd ha words h =
-    of-glyph hex font byte d hd ha words (getD sixteen r none) (all-at (λ q. wordly (getD sixteen q none)) 17 refl r h)
+    of-glyph hex font byte d hd ha words (getD sixteen r none) (all-at (λ q. word-segment (getD sixteen q none)) 17 refl r h)
 segment-by-segment Fourteen hex font byte d r hd ha words h =
-    of-glyph hex font byte d hd ha words (getD fourteen r none) (all-at (λ q. wordly (getD fourteen q none)) 17 refl r h)
+    of-glyph hex font byte d hd ha words (getD fourteen r none) (all-at (λ q. word-segment (getD fourteen q none)) 17 refl r h)
 segment-by-segment SevenPair hex font byte d r hd ha words h =
-    of-pair hex font byte d hd ha words (getD pair r none) (all-at (λ q. paired (getD pair q none)) 17 refl r h)
+    of-pair hex font byte d hd ha words (getD pair r none) (all-at (λ q. pair-segment (getD pair q none)) 17 refl r h)

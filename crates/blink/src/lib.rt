@@ -1,4 +1,4 @@
-// The blink count of a MAX6954: master clocks, the phase, and the plane shown.
+// The blink count of a MAX6954: master clocks, the phase, the plane shown, and a part of it from two lent planes.
 ghost use mathlib.Core.Path.{_≡_};
 ghost use Rattle.words.specs.Choice.{if};
 ghost use Rattle.blink.specs.Blink.{advanced, phaseAt, shownAt};

@@ -2,9 +2,9 @@
 -- Assumes nothing.
 use Prim.Native.Nat.{ℕ, _+_, _-_, _<_}
 use native.Mathlib.Omega.{arith}
-use mathlib.Core.Bool.{Bool, true, false, _&&_, _||_}
+use mathlib.Core.Bool.{Bool, true, false, not, _&&_, _||_}
 use mathlib.Core.List.{List}
-use mathlib.Core.Path.{_≡_, refl, ap}
+use mathlib.Core.Path.{_≡_, refl, ap, _∙_}
 use lib.Dec.{eqb, ltb}
 use lib.ListN.{getD}
 use borrow.Author.Tests.{lt-ltb, ltb-true}
@@ -15,7 +15,7 @@ use Rattle.words.proofs.Lists.{getD-tabulate, tabulate-ext}
 use Rattle.words.proofs.Truth.{passed}
 use Rattle.device.specs.declared.Device.{Device}
 use Rattle.wiring.specs.Wiring.{Segment, isSegment, none, glyph, point, first, second, cathode, notDriven, carries, listOf, digitOf, partner, place, ruleAt, wireAt}
-use Rattle.wiring.specs.Table.{segmentNumber, wireNumber}
+use Rattle.wiring.specs.Table.{segmentEntry, wireEntry}
 use Rattle.wiring.specs.declared.Display.{Display}
 use Rattle.wiring.specs.declared.Display.the-variants.{Sixteen, Fourteen, SevenPair}
 use Rattle.wiring.proofs.Wired.{wired}
@@ -23,9 +23,10 @@ use Rattle.glyphs.specs.Glyphs.{litBy}
 use Rattle.glyphs.specs.Numbers.{segmentsBy}
 use Rattle.glyphs.proofs.Segments.{segment-by-segment}
 use Rattle.brightness.specs.Dark.{testOn, dark}
-use Rattle.display.specs.Cathode.{displayOf, shownByte, hexMode, fontOf, lit}
+use Rattle.display.specs.Cathode.{displayOf, shownByte, hexMode, fontOf, segmentOn}
 use Rattle.display.specs.Pins.{pinNumber, pinOf, pinAt, segmentsNumber}
-use Rattle.display.specs.declared.Pin.the-variants.{Lit, Unlit}
+use Rattle.display.specs.declared.Pin.{Pin}
+use Rattle.display.specs.declared.Pin.the-variants.{NotDriven, Lit, Unlit}
 use Rattle.display.specs.Table.{allSegments, litSegments, pinBy, tablePin, PinByPin}
 
 -- a pin's place is one of the list's
@@ -55,7 +56,7 @@ listed Fourteen = refl
 listed SevenPair = refl
 
 module _ (t : Bool) (segments : ℕ) (on : Segment → Bool) where
-  shown : (s : Segment) → numbered s ≡ true → bit (segmentNumber s) segments ≡ on s → pinBy (if t allSegments segments) (segmentNumber s) ≡ pinOf (λ q. isSegment q && (t || on q)) (carries s)
+  shown : (s : Segment) → numbered s ≡ true → bit (segmentEntry s) segments ≡ on s → pinBy (if t allSegments segments) (segmentEntry s) ≡ pinOf (λ q. isSegment q && (t || on q)) (carries s)
   shown none h e = refl
   shown (glyph n) h e = bit-pin t n segments _ h e
   shown point h e = bit-pin t 16 segments _ h e
@@ -63,8 +64,8 @@ module _ (t : Bool) (segments : ℕ) (on : Segment → Bool) where
   shown (second n) h e = bit-pin t (n + 8) segments _ h e
 
   -- the cathode and its partner carry no segment
-  wired-pin : (b c : Bool) (s : Segment) → numbered s ≡ true → bit (segmentNumber s) segments ≡ on s
-      → pinBy (if t allSegments segments) (wireNumber (if b cathode (if c notDriven (carries s)))) ≡ pinOf (λ q. isSegment q && (t || on q)) (if b cathode (if c notDriven (carries s)))
+  wired-pin : (b c : Bool) (s : Segment) → numbered s ≡ true → bit (segmentEntry s) segments ≡ on s
+      → pinBy (if t allSegments segments) (wireEntry (if b cathode (if c notDriven (carries s)))) ≡ pinOf (λ q. isSegment q && (t || on q)) (if b cathode (if c notDriven (carries s)))
   wired-pin true c s h e = refl
   wired-pin false true s h e = refl
   wired-pin false false s h e = shown s h e
@@ -86,7 +87,7 @@ module _ (x : Device) (d : ℕ) (font14 font16 : List ℕ)
   abbrev font : List ℕ
   font = fontOf k font14 font16
 
-  rule-pin : (p : ℕ) → p < 19 → pinBy (litSegments x d font14 font16) (wireNumber (ruleAt k d p)) ≡ pinOf (lit x d font14 font16) (ruleAt k d p)
+  rule-pin : (p : ℕ) → p < 19 → pinBy (litSegments x d font14 font16) (wireEntry (ruleAt k d p)) ≡ pinOf (segmentOn x d font14 font16) (ruleAt k d p)
   rule-pin p hp =
       let h = place-lt d p hd hp in
       wired-pin
@@ -99,16 +100,30 @@ module _ (x : Device) (d : ℕ) (font14 font16 : List ℕ)
       (all-at (λ r. numbered (getD (listOf k) r none)) 17 (listed k) (place d p) h)
       (segment-by-segment k (hexMode x d) font (shownByte x) d (place d p) first-byte second-byte (font-words k font14 font16 words14 words16) h)
 
+  abbrev by-table : ℕ → Pin
+  by-table p = pinBy (litSegments x d font14 font16) (wireEntry (ruleAt k d p))
+
+  pin-at : (p : ℕ) → p < 19 → if (dark x d) NotDriven (by-table p) ≡ pinAt x d font14 font16 p
+  pin-at p hp = rw (lt-ltb d 8 hd, lt-ltb p 19 hp) (go (dark x d))
+    where
+      go : (b : Bool) → if b NotDriven (by-table p) ≡ if b NotDriven (pinOf (λ s. not b && segmentOn x d font14 font16 s) (ruleAt k d p))
+      go true = refl
+      go false = rule-pin p hp
+
+  table-pin : (p : ℕ) → p < 19 → tablePin x d font14 font16 p ≡ pinAt x d font14 font16 p
+  table-pin p hp = rw (wired .entries k d p hd hp) (pin-at p hp)
+
   -- the pins of a cathode that is not dark
   pub pins-lit : (segments : ℕ) (r : Display) (wires : List ℕ) → dark x d ≡ false → r ≡ k → segments ≡ litSegments x d font14 font16
-      → wires ≡ tabulate 19 (λ p. wireNumber (wireAt r d p))
+      → wires ≡ tabulate 19 (λ p. wireEntry (wireAt r d p))
       → tabulate 19 (λ p. pinNumber (pinBy segments (getD wires p 0))) ≡ tabulate 19 (λ p. pinNumber (pinAt x d font14 font16 p))
-  pins-lit segments r wires bright e es ew =
-      tabulate-ext 19 _ _
-      (λ p hp. rw (ew, getD-tabulate {A = ℕ} 19 (λ q. wireNumber (wireAt r d q)) 0 p hp, bright, e, es, lt-ltb d 8 hd, lt-ltb p 19 hp) (ap pinNumber (rule-pin p hp)))
+  pins-lit segments r wires bright e es ew = tabulate-ext 19 _ _ (λ p hp. ap pinNumber (read p hp ∙ chosen p ∙ pin-at p hp))
+    where
+      read : (p : ℕ) → p < 19 → pinBy segments (getD wires p 0) ≡ by-table p
+      read p hp = rw (ew, getD-tabulate {A = ℕ} 19 (λ q. wireEntry (wireAt r d q)) 0 p hp, e, es, lt-ltb d 8 hd, lt-ltb p 19 hp)
 
-  pub table-pin : (p : ℕ) → p < 19 → tablePin x d font14 font16 p ≡ pinAt x d font14 font16 p
-  table-pin p hp = rw (wired .entries k d p hd hp, lt-ltb d 8 hd, lt-ltb p 19 hp, rule-pin p hp)
+      chosen : (p : ℕ) → by-table p ≡ if (dark x d) NotDriven (by-table p)
+      chosen p = rw bright
 
 pub pin-by-pin : PinByPin
 pin-by-pin x d font14 font16 p first-byte second-byte words14 words16 hd hp = table-pin x d font14 font16 first-byte second-byte words14 words16 hd p hp

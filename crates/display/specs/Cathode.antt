@@ -1,7 +1,7 @@
 -- Document 01, "Segments and brightness": the display of a cathode, and when a segment of it is lit.
 -- Assumes nothing.
 use Prim.Native.Nat.{ℕ}
-use mathlib.Core.Bool.{Bool, _&&_, _||_}
+use mathlib.Core.Bool.{Bool, not, _&&_, _||_}
 use mathlib.Core.List.{List}
 use lib.ListN.{getD}
 use Rattle.words.specs.Choice.{if, bit}
@@ -12,7 +12,7 @@ use Rattle.wiring.specs.Wiring.{Segment, isSegment, digitOf}
 use Rattle.wiring.specs.declared.Display.{Display}
 use Rattle.wiring.specs.declared.Display.the-variants.{Sixteen, Fourteen, SevenPair}
 use Rattle.glyphs.specs.Glyphs.{litBy}
-use Rattle.brightness.specs.Dark.{testOn}
+use Rattle.brightness.specs.Dark.{testOn, dark}
 
 -- bit d of the digit type set is a 14-segment digit (Tables 12 and 13); clear it is 16- or 7-segment, and bit d of the fitted byte set means a
 -- 7-segment pair
@@ -36,7 +36,11 @@ fontOf Sixteen font14 font16 = font16
 fontOf Fourteen font14 font16 = font14
 fontOf SevenPair font14 font16 = font16
 
--- a segment of cathode d is lit: every one in display test, else by the byte of its own digit; none is no segment
-abbrev pub lit : Device → ℕ → List ℕ → List ℕ → Segment → Bool
-lit x d font14 font16 s =
+-- a segment of cathode d is on: every one in display test, else by the byte of its own digit; none is no segment
+abbrev pub segmentOn : Device → ℕ → List ℕ → List ℕ → Segment → Bool
+segmentOn x d font14 font16 s =
     isSegment s && (testOn x || litBy (hexMode x d) (fontOf (displayOf x d) font14 font16) (shownByte x (digitOf d s)) s)
+
+-- and lit where its cathode isn't dark
+abbrev pub lit : Device → ℕ → List ℕ → List ℕ → Segment → Bool
+lit x d font14 font16 s = not (dark x d) && segmentOn x d font14 font16 s

@@ -1,4 +1,4 @@
--- The pins of a cathode by the wiring table and the number of its lit segments, equal to those pin by pin.
+-- The pins of a cathode by the wiring table and its lit segments as one number, equal to those pin by pin.
 -- Assumes nothing.
 use Prim.Native.Nat.{ℕ, _+_, _<_}
 use mathlib.Core.Bool.{Bool}
@@ -21,7 +21,8 @@ use Rattle.display.specs.declared.Pin.the-variants.{NotDriven, Cathode, 
 abbrev pub allSegments : ℕ
 allSegments = 0x1FFFF
 
--- the lit segments of a cathode as one number, by the bytes that its digits show; all in display test
+-- the lit segments of a cathode as one number, by the bytes that its digits show; in display test all. Bits that no segment of the display has
+-- may be set too
 abbrev pub shownSegments : Bool → Display → Bool → List ℕ → List ℕ → ℕ → ℕ → ℕ
 shownSegments test k hex font14 font16 v a = if test allSegments (segmentsBy k hex (fontOf k font14 font16) v a)
 
@@ -40,7 +41,7 @@ abbrev pub tablePin : Device → ℕ → List ℕ → List ℕ → ℕ → Pin
 tablePin x d font14 font16 p =
     if (dark x d) NotDriven (pinBy (litSegments x d font14 font16) (entryAt (displayOf x d) d p))
 
--- the two are equal, for bytes and words that are such, as those of every record and every lent table are
+-- the two are equal where the bytes shown are below 256 and the words below 65,536, as in every record and lent table
 abbrev pub PinByPin : Type 0
 PinByPin =
     (x : Device) (d : ℕ) (font14 font16 : List ℕ) (p : ℕ)

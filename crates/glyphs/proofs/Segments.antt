@@ -12,7 +12,7 @@ use Rattle.words.specs.Choice.{bit}
 use Rattle.words.proofs.Below.{all-at}
 use Rattle.words.proofs.Bits.{low-bit, high-bit}
 use Rattle.wiring.specs.Wiring.{Segment, none, glyph, point, first, second, sixteen, fourteen, pair, digitOf}
-use Rattle.wiring.specs.Table.{segmentNumber}
+use Rattle.wiring.specs.Table.{segmentEntry}
 use Rattle.wiring.specs.declared.Display.the-variants.{Sixteen, Fourteen, SevenPair}
 use Rattle.glyphs.specs.Glyphs.{litBy}
 use Rattle.glyphs.specs.Numbers.{sevenSegments, pairSegments, glyphSegments, SegmentBySegment}
@@ -51,7 +51,7 @@ module _ (hex : Bool) (font : List ℕ) (byte : ℕ → ℕ) (d : ℕ) (hd : byt
   abbrev word : ℕ
   word = getD font (byte d % 128) 0
 
-  of-glyph : (s : Segment) → word-segment s ≡ true → bit (segmentNumber s) (glyphSegments font (byte d)) ≡ lit s
+  of-glyph : (s : Segment) → word-segment s ≡ true → bit (segmentEntry s) (glyphSegments font (byte d)) ≡ lit s
   of-glyph none e = none-above (byte d / 128 * 65536 + word) (omega (arith, words (byte d % 128), hd))
   of-glyph (glyph n) e = below 16 n (byte d / 128) word (ltb-true n 16 e) (omega (arith, words (byte d % 128)))
   of-glyph point e = above 16 0 (byte d / 128) word (omega (arith, words (byte d % 128))) ∙ sym (high-bit 7 0 (byte d))
@@ -64,7 +64,7 @@ module _ (hex : Bool) (font : List ℕ) (byte : ℕ → ℕ) (d : ℕ) (hd : byt
   small : seven d < 256
   small = seven-small hex (byte d) hd
 
-  of-pair : (s : Segment) → pair-segment s ≡ true → bit (segmentNumber s) (pairSegments hex (byte d) (byte (d + 8))) ≡ lit s
+  of-pair : (s : Segment) → pair-segment s ≡ true → bit (segmentEntry s) (pairSegments hex (byte d) (byte (d + 8))) ≡ lit s
   of-pair none e = none-above (seven (d + 8) * 256 + seven d) (omega (arith, small, seven-small hex (byte (d + 8)) ha))
   of-pair (glyph n) e = absurd (true≢false (sym e))
   of-pair point e = absurd (true≢false (sym e))

@@ -1,4 +1,4 @@
--- The lit segments of a cathode as one number, segment s being bit `segmentNumber s`.
+-- The segments that bytes light, as one number: segment s is bit `segmentEntry s`. Bits that no segment of the display has may be set too.
 -- Assumes nothing.
 use Prim.Native.Nat.{ℕ, _+_, _*_, _/_, _%_, _<_}
 use mathlib.Core.Bool.{Bool}
@@ -7,7 +7,7 @@ use mathlib.Core.Path.{_≡_}
 use lib.ListN.{getD}
 use Rattle.words.specs.Choice.{if, bit}
 use Rattle.wiring.specs.Wiring.{none, listOf, digitOf}
-use Rattle.wiring.specs.Table.{segmentNumber}
+use Rattle.wiring.specs.Table.{segmentEntry}
 use Rattle.wiring.specs.declared.Display.{Display}
 use Rattle.wiring.specs.declared.Display.the-variants.{Sixteen, Fourteen, SevenPair}
 use Rattle.glyphs.specs.Glyphs.{litBy}
@@ -42,5 +42,5 @@ SegmentBySegment =
     → byte (d + 8) < 256
     → ((i : ℕ) → getD font i 0 < 65536)
     → r < 17
-    → bit (segmentNumber (getD (listOf k) r none)) (segmentsBy k hex font (byte d) (byte (d + 8)))
+    → bit (segmentEntry (getD (listOf k) r none)) (segmentsBy k hex font (byte d) (byte (d + 8)))
     ≡ litBy hex font (byte (digitOf d (getD (listOf k) r none))) (getD (listOf k) r none)

@@ -11,18 +11,18 @@ use Rattle.wiring.specs.Wiring.{Segment, none, glyph, point, first, seco
 use Rattle.wiring.specs.declared.Display.{Display}
 use Rattle.wiring.specs.declared.Display.the-variants.{Sixteen, Fourteen, SevenPair}
 
--- a segment's number: its bit in the lit segments of a cathode (`glyphs`), or 17 for none
-abbrev pub segmentNumber : Segment → ℕ
-segmentNumber none = 17
-segmentNumber (glyph n) = n
-segmentNumber point = 16
-segmentNumber (first n) = n
-segmentNumber (second n) = n + 8
+-- a segment's entry: the number of the bit that lights it (`glyphs`: Numbers), or 17 for none
+abbrev pub segmentEntry : Segment → ℕ
+segmentEntry none = 17
+segmentEntry (glyph n) = n
+segmentEntry point = 16
+segmentEntry (first n) = n
+segmentEntry (second n) = n + 8
 
-abbrev pub wireNumber : Wire → ℕ
-wireNumber cathode = 18
-wireNumber notDriven = 19
-wireNumber (carries s) = segmentNumber s
+abbrev pub wireEntry : Wire → ℕ
+wireEntry cathode = 18
+wireEntry notDriven = 19
+wireEntry (carries s) = segmentEntry s
 
 -- a display's place in the table
 abbrev pub displayNumber : Display → ℕ
@@ -69,12 +69,13 @@ pairWires =
     ∷ 6 ∷ 17 ∷ 5 ∷ 4 ∷ 3 ∷ 7 ∷ 19 ∷ 18 ∷ 2 ∷ 1 ∷ 0 ∷ 14 ∷ 13 ∷ 12 ∷ 11 ∷ 10 ∷ 9 ∷ 8 ∷ 15
     ∷ []
 
-abbrev pub wires : List ℕ
-wires = sixteenWires ++ fourteenWires ++ pairWires
+-- three displays by eight cathodes by nineteen pins
+abbrev pub table : List ℕ
+table = sixteenWires ++ fourteenWires ++ pairWires
 
 -- the entry of a display, a cathode and a pin
 abbrev pub entryAt : Display → ℕ → ℕ → ℕ
-entryAt k d p = getD wires (displayNumber k * 152 + d * 19 + p) 0
+entryAt k d p = getD table (displayNumber k * 152 + d * 19 + p) 0
 
 -- the pins but the cathode's and its partner's, in rising order
 abbrev pub othersOf : ℕ → List ℕ → List ℕ
@@ -84,10 +85,10 @@ othersOf d (p ∷ ps) = if (eqb p d || eqb p (partner d)) (othersOf d ps) (p ∷
 abbrev pub others : ℕ → List ℕ
 others d = othersOf d (0 ∷ 1 ∷ 2 ∷ 3 ∷ 4 ∷ 5 ∷ 6 ∷ 7 ∷ 8 ∷ 9 ∷ 10 ∷ 11 ∷ 12 ∷ 13 ∷ 14 ∷ 15 ∷ 16 ∷ 17 ∷ 18 ∷ [])
 
--- the table obeys the rule: pin d is the cathode, its partner isn't driven, the other 17 in rising order carry the display's list; and so it
--- is at each entry
+-- the table obeys the rule: pin d is the cathode, its partner isn't driven, the other 17 in rising order carry the display's list; `entries`
+-- says the same entry by entry, by `ruleAt`
 pub record WiringTable : Type 0 where
-  pub cathodes : (k : Display) (d : ℕ) → d < 8 → entryAt k d d ≡ wireNumber cathode
-  pub partners : (k : Display) (d : ℕ) → d < 8 → entryAt k d (partner d) ≡ wireNumber notDriven
-  pub segments : (k : Display) (d r : ℕ) → d < 8 → r < 17 → entryAt k d (getD (others d) r 0) ≡ segmentNumber (getD (listOf k) r none)
-  pub entries : (k : Display) (d p : ℕ) → d < 8 → p < 19 → entryAt k d p ≡ wireNumber (ruleAt k d p)
+  pub cathodes : (k : Display) (d : ℕ) → d < 8 → entryAt k d d ≡ wireEntry cathode
+  pub partners : (k : Display) (d : ℕ) → d < 8 → entryAt k d (partner d) ≡ wireEntry notDriven
+  pub segments : (k : Display) (d r : ℕ) → d < 8 → r < 17 → entryAt k d (getD (others d) r 0) ≡ segmentEntry (getD (listOf k) r none)
+  pub entries : (k : Display) (d p : ℕ) → d < 8 → p < 19 → entryAt k d p ≡ wireEntry (ruleAt k d p)

@@ -63,7 +63,7 @@ pub data Wire : Type 0 where
 abbrev pub partner : ℕ → ℕ
 partner d = if (odd d) (d - 1) (d + 1)
 
--- a pin's place among the other 17 in rising order
+-- the place in rising order of a pin that is neither the cathode's nor its partner's
 abbrev pub place : ℕ → ℕ → ℕ
 place d p = if (ltb p d) p (p - 2)
 

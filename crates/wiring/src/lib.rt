@@ -4,7 +4,7 @@ ghost use Prim.Native.Nat.{_+_, _<_, _≤_};
 ghost use lib.ListN.{getD};
 ghost use Rattle.words.specs.Lists.{tabulate};
 ghost use Rattle.wiring.specs.Wiring.{wireAt};
-ghost use Rattle.wiring.specs.Table.{displayNumber, wireNumber, wires, WiringTable};
+ghost use Rattle.wiring.specs.Table.{displayNumber, wireEntry, table, WiringTable};
 
 // What a cathode drives: a 16-segment digit, a 14-segment digit or two 7-segment digits.
 pub enum Display {
@@ -497,7 +497,7 @@ fn display_number(display: Display) -> usize
 // Nineteen entries of the table from one on. The table is copied once for all of them.
 fn entries(start: usize) -> [u8; 19]
     requires { ⌜ start + 19 ≤ 456 ⌝ }
-    ensures { λ r. ⌜ r ≡ tabulate 19 (λ p. getD wires (start + p) 0) ⌝ }
+    ensures { λ r. ⌜ r ≡ tabulate 19 (λ p. getD table (start + p) 0) ⌝ }
 {
     let table = WIRING;
     let mut row = [NOT_DRIVEN; 19];
@@ -512,7 +512,7 @@ fn entries(start: usize) -> [u8; 19]
 
 // What the pins O0 to O18 are to a cathode, by their numbers in the table; a cathode above 7 drives none.
 pub fn wires(display: Display, cathode: usize) -> [u8; 19]
-    ensures { λ r. ⌜ r ≡ tabulate 19 (λ p. wireNumber (wireAt display cathode p)) ⌝ }
+    ensures { λ r. ⌜ r ≡ tabulate 19 (λ p. wireEntry (wireAt display cathode p)) ⌝ }
 {
     if cathode < 8 {
         let k = display_number(display);

@@ -7,12 +7,12 @@ use lib.ListN.{length, drop, getD, length-set}
 use borrow.Author.Needs.{needs}
 use Rattle.words.specs.Lists.{tabulate}
 use Rattle.words.proofs.Lists.{tabulate-none, tabulate-more}
-use Rattle.wiring.specs.Table.{wires}
+use Rattle.wiring.specs.Table.{table}
 use Rattle.wiring.proofs.entries.Statement.{statement}
 use Rattle.wiring.proofs.entries.Tie as tie
 
 abbrev Inv-loop : tie.InvT-loop
-Inv-loop start table row₀ p₀ row p = (p ≤ 19) × (length row ≡ 19) × (row ≡ tabulate p (λ q. getD wires (start + q) 0) ++ drop p row₀)
+Inv-loop start table row₀ p₀ row p = (p ≤ 19) × (length row ≡ 19) × (row ≡ tabulate p (λ q. getD table (start + q) 0) ++ drop p row₀)
 
 abbrev μ-loop : tie.MeasureT-loop
 μ-loop start table row₀ p₀ row p = 19 - p

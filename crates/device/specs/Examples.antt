@@ -23,6 +23,7 @@ reports d (keys ∷ scans) =
 abbrev pub phaseRead : Device → ℕ → ℕ
 phaseRead d clocks = taken (clocked d clocks) 0x8400 .shift / 128 % 2
 
+-- each example as what is evaluated and what the document says
 abbrev pub rows : List (List ℕ × List ℕ)
 rows =
     -- 1: answers 0000, 0401, 8481
@@ -36,5 +37,6 @@ rows =
     )
     ∷ []
 
+-- the two agree in every row
 abbrev pub Examples : Type 0
 Examples = map (λ (row : List ℕ × List ℕ). row .0) rows ≡ map (λ (row : List ℕ × List ℕ). row .1) rows

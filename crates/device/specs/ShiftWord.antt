@@ -9,6 +9,7 @@ use Rattle.registers.specs.Registers.{dataOf}
 use Rattle.device.specs.Words.{answerWord, taken}
 use Rattle.device.specs.declared.Device.{Device}
 
+-- by every word
 pub record ShiftWord : Type 0 where
   -- after a write the shift word stays as clocked
   pub after-write : (d : Device) (w : ℕ) → bit 15 w ≡ false → taken d w .shift ≡ w

@@ -19,6 +19,7 @@ use Rattle.brightness.specs.Dark.{testOn, dark}
 abbrev pub displayBy : ℕ → ℕ → ℕ → Display
 displayBy types fitted d = if (bit d types) Fourteen (if (bit d fitted) SevenPair Sixteen)
 
+-- the display of a driver's cathode
 abbrev pub displayOf : Device → ℕ → Display
 displayOf x d = displayBy (x .registers .controls .types) (x .fitted) d
 
@@ -41,6 +42,6 @@ abbrev pub segmentOn : Device → ℕ → List ℕ → List ℕ → Segment → 
 segmentOn x d font14 font16 s =
     isSegment s && (testOn x || litBy (hexMode x d) (fontOf (displayOf x d) font14 font16) (shownByte x (digitOf d s)) s)
 
--- and lit where its cathode isn't dark
+-- a segment of cathode d is lit: it is on, and the cathode isn't dark
 abbrev pub lit : Device → ℕ → List ℕ → List ℕ → Segment → Bool
 lit x d font14 font16 s = not (dark x d) && segmentOn x d font14 font16 s

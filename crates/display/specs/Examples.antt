@@ -26,6 +26,7 @@ pinsOf x d pins = map (λ p. pinNumber (pinAt x d [] [] p)) pins
 abbrev pub segment : Segment → ℕ
 segment s = wireEntry (carries s)
 
+-- each example as what is evaluated and what the document says
 abbrev pub rows : List (List ℕ × List ℕ)
 rows =
     -- 6: nibbles 0, E, F: 1, 15, 15; the global one, and those of digits 0, 0a, 1a
@@ -48,5 +49,6 @@ rows =
     )
     ∷ []
 
+-- the two agree in every row
 abbrev pub Examples : Type 0
 Examples = map (λ (row : List ℕ × List ℕ). row .0) rows ≡ map (λ (row : List ℕ × List ℕ). row .1) rows

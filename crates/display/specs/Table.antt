@@ -26,6 +26,7 @@ allSegments = 0x1FFFF
 abbrev pub shownSegments : Bool → Display → Bool → List ℕ → List ℕ → ℕ → ℕ → ℕ
 shownSegments test k hex font14 font16 v a = if test allSegments (segmentsBy k hex (fontOf k font14 font16) v a)
 
+-- those of a driver's cathode
 abbrev pub litSegments : Device → ℕ → List ℕ → List ℕ → ℕ
 litSegments x d font14 font16 =
     shownSegments (testOn x) (displayOf x d) (hexMode x d) font14 font16 (shownByte x d) (shownByte x (d + 8))
@@ -37,6 +38,7 @@ pinBy segments entry =
     (if (bit entry segments) Lit Unlit)
     (if (eqb entry 17) NoSegment (if (eqb entry 18) Cathode NotDriven))
 
+-- a pin of cathode d, by the table
 abbrev pub tablePin : Device → ℕ → List ℕ → List ℕ → ℕ → Pin
 tablePin x d font14 font16 p =
     if (dark x d) NotDriven (pinBy (litSegments x d font14 font16) (entryAt (displayOf x d) d p))

@@ -29,6 +29,7 @@ pairSegments hex v a = sevenSegments hex a * 256 + sevenSegments hex v
 abbrev pub glyphSegments : List ℕ → ℕ → ℕ
 glyphSegments font v = v / 128 * 65536 + getD font (v % 128) 0
 
+-- the segments of a cathode, by its display
 abbrev pub segmentsBy : Display → Bool → List ℕ → ℕ → ℕ → ℕ
 segmentsBy Sixteen hex font v a = glyphSegments font v
 segmentsBy Fourteen hex font v a = glyphSegments font v

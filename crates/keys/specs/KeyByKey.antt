@@ -19,6 +19,7 @@ pub record KeyScanned (g : Group) (closed k : ℕ) : Type 0 where
   -- held: closed, and held before or newly debounced
   pub held : bit k (scannedGroup g closed .held) ≡ (bit k closed && (bit k (g .held) || bit k (newly g closed)))
 
+-- every key, in every scan
 pub record KeyByKey : Type 0 where
   -- a key counts as closed where it is and its group is configured
   pub closed : (ports group keys k : ℕ) → bit k (closedOf ports group keys) ≡ (ltb group (groupsOf ports) && bit k keys)

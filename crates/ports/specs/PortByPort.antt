@@ -14,6 +14,7 @@ portLevel groups ports gpio pins interrupt p =
     if (eqb p 4 && not (eqb groups 0)) (odd interrupt)
     (if (ltb p groups) false (if (bit p ports) (bit p pins) (bit p gpio)))
 
+-- GPIO data as read
 pub record PortByPort : Type 0 where
   -- bit p, for P0 to P4
   pub level : (ports gpio pins interrupt p : ℕ) → p < 5

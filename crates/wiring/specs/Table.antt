@@ -19,6 +19,7 @@ segmentEntry point = 16
 segmentEntry (first n) = n
 segmentEntry (second n) = n + 8
 
+-- a pin's entry: that of the segment that it carries, or 18 for the cathode and 19 for a pin that isn't driven
 abbrev pub wireEntry : Wire → ℕ
 wireEntry cathode = 18
 wireEntry notDriven = 19
@@ -82,6 +83,7 @@ abbrev pub othersOf : ℕ → List ℕ → List ℕ
 othersOf d [] = []
 othersOf d (p ∷ ps) = if (eqb p d || eqb p (partner d)) (othersOf d ps) (p ∷ othersOf d ps)
 
+-- of O0 to O18
 abbrev pub others : ℕ → List ℕ
 others d = othersOf d (0 ∷ 1 ∷ 2 ∷ 3 ∷ 4 ∷ 5 ∷ 6 ∷ 7 ∷ 8 ∷ 9 ∷ 10 ∷ 11 ∷ 12 ∷ 13 ∷ 14 ∷ 15 ∷ 16 ∷ 17 ∷ 18 ∷ [])
 

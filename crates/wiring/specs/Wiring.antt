@@ -18,6 +18,7 @@ pub data Segment : Type 0 where
   first : ℕ → Segment
   second : ℕ → Segment
 
+-- "none" is no segment
 abbrev pub isSegment : Segment → Bool
 isSegment none = false
 isSegment (glyph n) = true
@@ -40,6 +41,7 @@ abbrev pub pair : List Segment
 pair =
     first 6 ∷ none ∷ first 5 ∷ first 4 ∷ first 3 ∷ first 7 ∷ first 2 ∷ first 1 ∷ first 0 ∷ second 6 ∷ second 5 ∷ second 4 ∷ second 3 ∷ second 2 ∷ second 1 ∷ second 0 ∷ second 7 ∷ []
 
+-- the list of a display
 abbrev pub listOf : Display → List Segment
 listOf Sixteen = sixteen
 listOf Fourteen = fourteen

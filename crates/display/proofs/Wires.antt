@@ -44,11 +44,7 @@ bit-pin false n segments on h e = rw (h, e)
 
 -- none, or a segment with a bit
 abbrev numbered : Segment → Bool
-numbered none = true
-numbered (glyph n) = ltb n 17
-numbered point = true
-numbered (first n) = ltb n 17
-numbered (second n) = ltb (n + 8) 17
+numbered s = not (isSegment s) || ltb (segmentEntry s) 17
 
 listed : (k : Display) → all (λ r. numbered (getD (listOf k) r none)) 17 ≡ true
 listed Sixteen = refl

@@ -7,7 +7,6 @@ use lib.ListN.{length, drop, getD, length-set}
 use borrow.Author.Needs.{needs}
 use Rattle.words.specs.Lists.{tabulate}
 use Rattle.words.proofs.Lists.{tabulate-none, tabulate-more}
-use Rattle.wiring.specs.Table.{table}
 use Rattle.wiring.proofs.entries.Statement.{statement}
 use Rattle.wiring.proofs.entries.Tie as tie
 

@@ -1,0 +1,95 @@
+-- What a call's number says of its arguments and of the chain, and what the call does by it.
+-- Assumes nothing.
+use Prim.Native.Nat.{ℕ, _≤_, _<_}
+use native.Mathlib.Omega.{arith}
+use mathlib.Core.Bool.{Bool, true, false, _&&_}
+use mathlib.Core.List.{List, [], _∷_}
+use mathlib.Core.Path.{_≡_, refl}
+use lib.Dec.{eqb, leb, ltb}
+use lib.ListN.{length}
+use borrow.Author.Tests.{eqb-true, eqb-false, leb-true, ltb-true, ltb-false}
+use Rattle.words.specs.Choice.{if}
+use Rattle.words.proofs.Truth.{and-left, and-right, passed}
+use Rattle.wire.specs.Bits.{bytesFor}
+use Rattle.wire.specs.Shift.{sizeNumber}
+use Rattle.wire.proofs.SizeLaws.{served as sizes-fit}
+use Rattle.device.specs.declared.Device.{Device}
+use Rattle.calls.specs.Calls.{levels, Call}
+use Rattle.calls.specs.Numbers.{chainNumber, driverNumber, namedNumber, bytesNumber, stepNumber, argumentNumber, soundNumber, allSound, firstOf, numberBy}
+use Rattle.calls.specs.Served.{served, givenBack, refusedBack, numberAt, afterAt, replyAt, number, after, reply}
+use Rattle.calls.specs.Isolation.{numberAlone, accepted}
+
+-- the first number of a list that isn't 0 is 0: all are
+first-zero : (k : ℕ) (ks : List ℕ) → firstOf (k ∷ ks) ≡ 0 → (k ≡ 0) × (firstOf ks ≡ 0)
+first-zero k ks = go (eqb k 0) refl
+  where
+    go : (b : Bool) → eqb k 0 ≡ b → if b (firstOf ks) k ≡ 0 → (k ≡ 0) × (firstOf ks ≡ 0)
+    go true t e = (eqb-true k 0 t, e)
+    go false t e = absurd (eqb-false k 0 t e)
+
+-- what the number 0 says
+pub record Accepted (n : ℕ) (sound : Bool) (q : Call) : Type 0 where
+  pub named : namedNumber n q ≡ 0
+  pub bytes : bytesNumber q ≡ 0
+  pub argument : argumentNumber q ≡ 0
+  pub all-sound : sound ≡ true
+
+-- each rule of the table gave 0
+pub zero-says : (n : ℕ) (sound : Bool) (q : Call) → numberBy n sound q ≡ 0 → Accepted n sound q
+zero-says n sound q z =
+    let all = go (chainNumber n) (namedNumber n q) (bytesNumber q) (argumentNumber q) (soundNumber sound) z in
+    record { named = all .0; bytes = all .1; argument = all .2; all-sound = passed sound 0 6 (all .3) .0 }
+  where
+    go : (a b c d e : ℕ) → firstOf (a ∷ b ∷ c ∷ d ∷ e ∷ []) ≡ 0 → (b ≡ 0) × (c ≡ 0) × (d ≡ 0) × (e ≡ 0)
+    go a b c d e z =
+        let z₁ = first-zero a (b ∷ c ∷ d ∷ e ∷ []) z .1 in
+        let z₂ = first-zero b (c ∷ d ∷ e ∷ []) z₁ in
+        let z₃ = first-zero c (d ∷ e ∷ []) (z₂ .1) in
+        let z₄ = first-zero d (e ∷ []) (z₃ .1) in
+        (z₂ .0, z₃ .0, z₄ .0, first-zero e [] (z₄ .1) .0)
+
+pub number-says : (q : Call) (ds : List Device) → number q ds ≡ 0 → Accepted (length ds) (allSound ds) q
+unfolding numberAt
+number-says q ds = zero-says (length ds) (allSound ds) q
+
+-- a call with the number 0 is served
+pub after-zero : (q : Call) (ds : List Device) → number q ds ≡ 0 → after q ds ≡ served q ds
+unfolding afterAt
+after-zero q ds z = rw z
+
+pub reply-zero : (q : Call) (ds : List Device) → number q ds ≡ 0 → reply q ds ≡ givenBack q ds
+unfolding replyAt
+reply-zero q ds z = rw z
+
+-- a driver that is there
+pub driver-there : (n j : ℕ) → driverNumber n j ≡ 0 → (1 ≤ j) × (j ≤ n)
+driver-there n j e =
+    let t = passed (ltb 0 j && leb j n) 0 1 e .0 in
+    (ltb-true 0 j (and-left (ltb 0 j) (leb j n) t), leb-true j n (and-right (ltb 0 j) (leb j n) t))
+
+-- sent bytes that are enough
+pub sent-enough : (c sent room : ℕ) → sizeNumber c sent room ≡ 0 → bytesFor c ≤ sent
+sent-enough c sent room e = sizes-fit c sent room e .1
+
+-- pin levels that are five bits
+pub levels-fit : (l : ℕ) → stepNumber (levels l) ≡ 0 → l < 32
+levels-fit l e = omega (arith, ltb-false 31 l (go (ltb 31 l) e))
+  where
+    go : (b : Bool) → if {A = ℕ} b 6 0 ≡ 0 → b ≡ false
+    go true z = absurd (omega (arith, z))
+    go false z = refl
+
+module _ (n : ℕ) (q : Call) (ds : List Device) (l : length ds ≡ n) (s : allSound ds ≡ true) where
+  -- on sound records the arguments alone decide
+  pub number-alone : number q ds ≡ numberAlone n q
+  unfolding numberAt
+  number-alone = rw (l, s)
+
+  -- accepted it is served, refused it changes nothing
+  pub after-by : after q ds ≡ if (accepted n q) (served q ds) ds
+  unfolding afterAt
+  after-by = rw number-alone
+
+  pub reply-by : reply q ds ≡ if (accepted n q) (givenBack q ds) (refusedBack q)
+  unfolding replyAt
+  reply-by = rw number-alone

@@ -1,0 +1,120 @@
+-- The proof of `specs/Isolation.antt`'s theorem: one law for each kind of call, then induction on the list.
+-- Assumes nothing.
+use Prim.Native.Nat.{ℕ, _-_, _*_, _≤_}
+use native.Mathlib.Omega.{arith}
+use mathlib.Core.Bool.{Bool, true, false}
+use mathlib.Core.List.{List, [], _∷_, map}
+use mathlib.Core.Path.{_≡_, refl, ap, _∙_}
+use lib.Dec.{eqb}
+use lib.ListN.{length}
+use lib.Seq.{getD-set-same, getD-set-other}
+use borrow.Author.Tests.{eqb-true, eqb-false}
+use Rattle.words.specs.Choice.{if}
+use Rattle.wire.specs.Bits.{bytesFor}
+use Rattle.device.specs.PowerUp.{powerUp}
+use Rattle.device.specs.Words.{taken}
+use Rattle.device.specs.declared.Device.{Device}
+use Rattle.calls.specs.Calls.{Step, Question, Call, access, give, ask}
+use Rattle.calls.specs.Numbers.{allSound}
+use Rattle.calls.specs.Served.{recordOf, stepped, answerTo, served, givenBack, refusedBack, after, reply}
+use Rattle.calls.specs.Lists.{afterAll, numbers, replies}
+use Rattle.calls.specs.Isolation.{numberAlone, accepted, loneStep, loneReply, heard, loneAfter, lone, loneReplies, heardAll, Full, AllFull, Isolation}
+use Rattle.calls.proofs.Accepted.{zero-says, driver-there, sent-enough, number-alone, after-by, reply-by}
+use Rattle.calls.proofs.Records.{length-after, length-afterAll}
+use Rattle.calls.proofs.Sound.{after-sound, all-sound}
+use Rattle.calls.proofs.Answered.{taken-at, own-taken, own-answered}
+
+-- what a served call leaves at driver i's place, and gives back there
+record Own (n i : ℕ) (q : Call) (ds : List Device) : Type 0 where
+  left : recordOf (served q ds) i ≡ loneStep n i q (recordOf ds i)
+  back : heard n i q (givenBack q ds) ≡ loneReply i q (recordOf ds i)
+
+module _ (i : ℕ) (ds : List Device) (h : 1 ≤ i) (g : i ≤ length ds) where
+  -- an access of 16 clocks for each driver
+  access-own : (c : ℕ) (sent room : List ℕ) → c ≡ 16 * length ds → bytesFor c ≤ length sent → Own (length ds) i (access c sent room) ds
+  access-own c sent room e f =
+      record {
+        left = taken-at ds i h g c sent room ∙ ap (taken (recordOf ds i)) (own-taken ds i h g c sent e f);
+        back = ap (λ (w : ℕ). (w ∷ []) ∷ []) (own-answered ds i h g c sent room (omega arith) f);
+      }
+
+  -- what driver j is given
+  give-own : (j : ℕ) (s : Step) → 1 ≤ j → Own (length ds) i (give j s) ds
+  give-own j s h′ = record { left = go (eqb j i) refl; back = refl }
+    where
+      go : (b : Bool) → eqb j i ≡ b → recordOf (served (give j s) ds) i ≡ if b (stepped s (recordOf ds i)) (recordOf ds i)
+      go true e = let p : j ≡ i = eqb-true j i e in rw p (getD-set-same ds (i - 1) _ powerUp (omega arith))
+      go false e = getD-set-other ds (j - 1) (i - 1) _ powerUp (λ p. eqb-false j i e (omega arith))
+
+  -- what driver j is asked
+  ask-own : (j : ℕ) (q : Question) → Own (length ds) i (ask j q) ds
+  ask-own j q = record { left = refl; back = go (eqb j i) refl }
+    where
+      go : (b : Bool) → eqb j i ≡ b → if b (answerTo q (recordOf ds j) ∷ []) [] ≡ if b (answerTo q (recordOf ds i) ∷ []) []
+      go true e = let p : j ≡ i = eqb-true j i e in rw p
+      go false e = refl
+
+  -- any accepted call
+  own : (q : Call) → Full (length ds) q → accepted (length ds) q ≡ true → Own (length ds) i q ds
+  own (access c sent room) f t =
+      let a = zero-says (length ds) true (access c sent room) (eqb-true _ 0 t) in
+      access-own c sent room (f t) (sent-enough c (length sent) (length room) (a .bytes))
+  own (give j s) f t =
+      let a = zero-says (length ds) true (give j s) (eqb-true _ 0 t) in
+      give-own j s (driver-there (length ds) j (a .named) .0)
+  own (ask j q) f t = ask-own j q
+
+-- what one call, served or refused, leaves and gives back
+record Stepped (n i : ℕ) (q : Call) (ds : List Device) : Type 0 where
+  left : recordOf (after q ds) i ≡ loneAfter n i q (recordOf ds i)
+  back : if (accepted n q) (heard n i q (reply q ds)) [] ≡ if (accepted n q) (loneReply i q (recordOf ds i)) []
+
+-- one call on sound records
+call-own : (i : ℕ) (q : Call) (ds : List Device) → allSound ds ≡ true → Full (length ds) q → 1 ≤ i → i ≤ length ds → Stepped (length ds) i q ds
+call-own i q ds s f h g =
+    record {
+      left = rw (after-by n q ds refl s) (go-left (accepted n q) refl);
+      back = rw (reply-by n q ds refl s) (go-back (accepted n q) refl);
+    }
+  where
+    n : ℕ
+    n = length ds
+
+    go-left : (b : Bool) → accepted n q ≡ b → recordOf (if b (served q ds) ds) i ≡ if b (loneStep n i q (recordOf ds i)) (recordOf ds i)
+    go-left true t = own i ds h g q f t .left
+    go-left false t = refl
+
+    go-back : (b : Bool) → accepted n q ≡ b → if b (heard n i q (if b (givenBack q ds) (refusedBack q))) [] ≡ if b (loneReply i q (recordOf ds i)) []
+    go-back true t = own i ds h g q f t .back
+    go-back false t = refl
+
+-- the theorem's first three parts, at each length
+record Told (n i : ℕ) (qs : List Call) (ds : List Device) : Type 0 where
+  numbered : numbers qs ds ≡ map (numberAlone n) qs
+  left : recordOf (afterAll qs ds) i ≡ lone n i qs (recordOf ds i)
+  back : heardAll n i qs (replies qs ds) ≡ loneReplies n i qs (recordOf ds i)
+
+-- by induction on the list
+told : (n i : ℕ) → 1 ≤ i → i ≤ n → (qs : List Call) (ds : List Device) → length ds ≡ n → allSound ds ≡ true → AllFull n qs → Told n i qs ds
+unfolding afterAll numbers replies lone loneReplies heardAll AllFull
+told n i h g [] ds l s f = record { numbered = refl; left = refl; back = refl }
+told n i h g (q ∷ qs) ds l s f =
+    let t : Stepped n i q ds = rw l at (call-own i q ds s (rw l (f .0)) h (rw l g)) in
+    let r = told n i h g qs (after q ds) (length-after q ds ∙ l) (after-sound q ds s) (f .1) in
+    record {
+      numbered = rw (number-alone n q ds l s, r .numbered);
+      left = r .left ∙ ap (lone n i qs) (t .left);
+      back = rw (t .back, r .back, t .left);
+    }
+
+-- the outputs are what the record, now the lone driver's, answers
+pub isolated : Isolation
+isolated qs ds s f i h g =
+    let t = told (length ds) i h g qs ds refl s f in
+    record {
+      same-numbers = t .numbered;
+      same-record = t .left;
+      same-answers = t .back;
+      same-outputs = λ q a.
+          reply-by (length ds) (ask i q) (afterAll qs ds) (length-afterAll qs ds) (all-sound qs ds s) ∙ rw (a, t .left);
+    }

@@ -1,0 +1,31 @@
+-- The bench examples, by one computation over the joined table.
+-- Assumes nothing.
+use Prim.Native.Nat.{ℕ}
+use mathlib.Core.List.{List, [], map}
+use mathlib.Core.Path.{_≡_, refl, sym, ap, _∙_}
+use lib.ListN.{getD, List·getD-map}
+use Rattle.words.specs.Lists.{tabulate}
+use Rattle.wire.specs.Bits.{bits, value, unpack, byteAt, pack, wordAt}
+use Rattle.wire.specs.Wire.{string, words, wire, answer, shifted}
+use Rattle.device.specs.Words.{taken}
+use Rattle.calls.specs.Numbers.{allSound}
+use Rattle.calls.specs.Served.{numberAt, afterAt, replyAt}
+use Rattle.calls.specs.Lists.{afterAll, replies}
+use Rattle.calls.specs.Examples.{rows, Examples}
+
+-- what the definitions give is what the document says, in every row
+pub bench : Examples
+unfolding tabulate bits value unpack byteAt pack wordAt string words wire answer shifted taken allSound numberAt afterAt replyAt afterAll replies
+bench = refl
+
+-- a table whose two sides agree, row by row
+row-of : (table : List (List ℕ × List ℕ)) → map (λ (row : List ℕ × List ℕ). row .0) table ≡ map (λ (row : List ℕ × List ℕ). row .1) table
+    → (k : ℕ) → getD table k ([], []) .0 ≡ getD table k ([], []) .1
+row-of table e k =
+    sym (List·getD-map (λ (row : List ℕ × List ℕ). row .0) table k ([], []))
+    ∙ ap (λ (column : List (List ℕ)). getD column k []) e
+    ∙ List·getD-map (λ (row : List ℕ × List ℕ). row .1) table k ([], [])
+
+-- example k of the table: what is evaluated is what the document says
+pub example-row : (k : ℕ) → getD rows k ([], []) .0 ≡ getD rows k ([], []) .1
+example-row = row-of rows bench

@@ -1,0 +1,7 @@
+pub mod Accepted
+pub mod Records
+pub mod Sound
+pub mod Answered
+pub mod Next
+pub mod Alone
+pub mod Bench

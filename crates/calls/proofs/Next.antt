@@ -1,0 +1,103 @@
+-- The proof of `specs/NextAccess.antt`'s theorem: what is given and asked between two accesses leaves every shift word as it is.
+-- Assumes nothing.
+use Prim.Native.Nat.{ℕ, _-_, _/_, _%_, _≤_}
+use mathlib.Core.Bool.{Bool, true, false}
+use mathlib.Core.List.{List, [], _∷_}
+use mathlib.Core.Path.{_≡_, refl, sym, ap, _∙_}
+use lib.ListN.{length, getD, length-map, List·getD-map}
+use lib.Seq.{map-set-same}
+use Rattle.words.specs.Choice.{if, bit}
+use Rattle.words.specs.Words.{readAt}
+use Rattle.wire.specs.Bits.{bits, value}
+use Rattle.registers.specs.Registers.{dataOf}
+use Rattle.device.specs.PowerUp.{powerUp}
+use Rattle.device.specs.Words.{answerWord}
+use Rattle.device.specs.declared.Device.{Device}
+use Rattle.device.proofs.Shift.{shift-word}
+use Rattle.calls.specs.Calls.{Step, scan, levels, clocks, Call, access, give, ask}
+use Rattle.calls.specs.Numbers.{allSound}
+use Rattle.calls.specs.Served.{recordOf, shiftWords, stepped, served, numberAt, replyAt, number, after, reply}
+use Rattle.calls.specs.Lists.{afterAll}
+use Rattle.calls.specs.Isolation.{accepted, ownWord}
+use Rattle.calls.specs.NextAccess.{NoAccess, wordTaken, NextAccess}
+use Rattle.calls.proofs.Accepted.{number-says, after-zero, reply-zero, sent-enough, after-by}
+use Rattle.calls.proofs.Records.{length-after, length-afterAll}
+use Rattle.calls.proofs.Sound.{after-sound}
+use Rattle.calls.proofs.Answered.{taken-at, own-answered}
+
+-- no step touches the shift word
+same-shift : (s : Step) (x : Device) → stepped s x .shift ≡ x .shift
+same-shift (scan a b c d) x = refl
+same-shift (levels l) x = refl
+same-shift (clocks k) x = refl
+
+give-keeps : (j : ℕ) (s : Step) (ds : List Device) (b : Bool) → shiftWords (if b (served (give j s) ds) ds) ≡ shiftWords ds
+give-keeps j s ds true = map-set-same (λ (d : Device). d .shift) ds (j - 1) _ powerUp (same-shift s (recordOf ds j))
+give-keeps j s ds false = refl
+
+ask-keeps : (b : Bool) (ds : List Device) → if b ds ds ≡ ds
+ask-keeps true ds = refl
+ask-keeps false ds = refl
+
+-- calls that are no accepted access leave the shift words as they are
+words-kept : (n : ℕ) (qs : List Call) (ds : List Device) → length ds ≡ n → allSound ds ≡ true → NoAccess n qs → shiftWords (afterAll qs ds) ≡ shiftWords ds
+unfolding afterAll NoAccess
+words-kept n [] ds l s f = refl
+words-kept n (access c sent room ∷ qs) ds l s f =
+    let q = access c sent room in
+    words-kept n qs (after q ds) (length-after q ds ∙ l) (after-sound q ds s) (f .1)
+    ∙ ap shiftWords (after-by n q ds l s ∙ ap (λ (b : Bool). if b (served q ds) ds) (f .0))
+words-kept n (give j s′ ∷ qs) ds l s f =
+    let q = give j s′ in
+    words-kept n qs (after q ds) (length-after q ds ∙ l) (after-sound q ds s) f
+    ∙ ap shiftWords (after-by n q ds l s)
+    ∙ give-keeps j s′ ds (accepted n q)
+words-kept n (ask j x ∷ qs) ds l s f =
+    let q = ask j x in
+    words-kept n qs (after q ds) (length-after q ds ∙ l) (after-sound q ds s) f
+    ∙ ap shiftWords (after-by n q ds l s ∙ ask-keeps (accepted n q) ds)
+
+-- a driver's shift word by the shift words
+shift-at : (ds : List Device) (i : ℕ) → getD (shiftWords ds) (i - 1) 0 ≡ recordOf ds i .shift
+shift-at ds i = List·getD-map (λ (d : Device). d .shift) ds (i - 1) powerUp
+
+-- after a read the driver holds the answer, until the next access
+answer-held : (ds : List Device) (c : ℕ) (sent room : List ℕ) (qs : List Call) (i : ℕ) → 1 ≤ i → i ≤ length ds
+    → number (access c sent room) ds ≡ 0 → bit 15 (wordTaken ds c sent i) ≡ true → NoAccess (length ds) qs
+    → recordOf (afterAll qs (after (access c sent room) ds)) i .shift
+    ≡ answerWord (wordTaken ds c sent i) (dataOf (recordOf ds i .registers) (readAt (wordTaken ds c sent i / 256 % 128)))
+answer-held ds c sent room qs i h g z r f =
+    let q = access c sent room in
+    let es = after q ds in
+    let kept = words-kept (length ds) qs es (length-after q ds) (after-sound q ds (number-says q ds z .all-sound)) f in
+    sym (shift-at (afterAll qs es) i)
+    ∙ ap (λ (ws : List ℕ). getD ws (i - 1) 0) kept
+    ∙ shift-at es i
+    ∙ ap (λ (xs : List Device). recordOf xs i .shift) (after-zero q ds z)
+    ∙ ap (λ (d : Device). d .shift) (taken-at ds i h g c sent room)
+    ∙ shift-word .after-read (recordOf ds i) (wordTaken ds c sent i) r
+
+-- an access on any other records with the same shift words, as sound, has the same answer
+same-answer : (ds es : List Device) (c : ℕ) (sent room : List ℕ) → shiftWords ds ≡ shiftWords es → allSound ds ≡ allSound es
+    → reply (access c sent room) ds ≡ reply (access c sent room) es
+unfolding replyAt numberAt
+same-answer ds es c sent room w s =
+    let l : length ds ≡ length es =
+    sym (length-map ds (λ (d : Device). d .shift)) ∙ ap length w ∙ length-map es (λ (d : Device). d .shift) in
+    rw (l, s, w)
+
+-- the read's answer comes out in the next accepted access
+pub next-access : NextAccess
+next-access =
+    record {
+      comes-next = λ ds c sent room qs next nextSent nextRoom i h g z r f z′ e.
+          let q = access next nextSent nextRoom in
+          let es = afterAll qs (after (access c sent room) ds) in
+          let l : length es ≡ length ds = length-afterAll qs _ ∙ length-after (access c sent room) ds in
+          let b = sent-enough next (length nextSent) (length nextRoom) (number-says q es z′ .bytes) in
+          let o = own-answered es i h (rw l g) next nextSent nextRoom (rw l e) b in
+          ap (ownWord (length ds) i) (reply-zero q es z′)
+          ∙ (rw l at o)
+          ∙ ap (λ (w : ℕ). value (bits 16 w)) (answer-held ds c sent room qs i h g z r f);
+      not-its-own = same-answer;
+    }

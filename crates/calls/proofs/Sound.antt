@@ -1,0 +1,55 @@
+-- The proof of `specs/Soundness.antt`'s theorem: served calls, one kind after the other, leave sound records.
+-- Assumes nothing.
+use Prim.Native.Nat.{_-_}
+use mathlib.Core.Bool.{Bool, true, false}
+use mathlib.Core.List.{List, [], _∷_}
+use mathlib.Core.Path.{_≡_, refl}
+use lib.Dec.{eqb}
+use lib.ListN.{length, getD}
+use borrow.Author.Tests.{eqb-true}
+use Rattle.words.specs.Choice.{if}
+use Rattle.words.proofs.Lists.{length-tabulate, getD-tabulate}
+use Rattle.device.specs.PowerUp.{powerUp}
+use Rattle.device.specs.Sound.{soundOf}
+use Rattle.device.specs.declared.Device.{Device}
+use Rattle.device.proofs.Sound.{soundness as device-sound}
+use Rattle.calls.specs.Calls.{Step, scan, levels, clocks, Call, access, give, ask}
+use Rattle.calls.specs.Numbers.{stepNumber, allSound}
+use Rattle.calls.specs.Served.{recordOf, stepped, served, numberAt, afterAt, after}
+use Rattle.calls.specs.Lists.{afterAll}
+use Rattle.calls.specs.Soundness.{Soundness}
+use Rattle.calls.proofs.Accepted.{Accepted, number-says, levels-fit}
+use Rattle.calls.proofs.Records.{sound-at, sound-all, sound-set}
+
+-- what a driver may be given leaves it sound
+stepped-sound : (s : Step) (x : Device) → stepNumber s ≡ 0 → soundOf x ≡ true → soundOf (stepped s x) ≡ true
+stepped-sound (scan a b c d) x e = device-sound .after-scan x a b c d
+stepped-sound (levels l) x e = device-sound .after-pins x l (levels-fit l e)
+stepped-sound (clocks k) x e = device-sound .after-clocks x k
+
+-- each kind of call, served
+served-sound : (q : Call) (ds : List Device) → Accepted (length ds) (allSound ds) q → allSound (served q ds) ≡ true
+served-sound (access c sent room) ds a =
+    sound-all _
+    (λ k h.
+    rw (getD-tabulate (length ds) _ powerUp k (rw length-tabulate at h))
+    (device-sound .after-word (getD ds k powerUp) _ (sound-at ds (a .all-sound) k)))
+served-sound (give j s) ds a =
+    sound-set ds (j - 1) _ (a .all-sound)
+    (stepped-sound s (recordOf ds j) (a .argument) (sound-at ds (a .all-sound) (j - 1)))
+served-sound (ask j q) ds a = a .all-sound
+
+-- any call
+pub after-sound : (q : Call) (ds : List Device) → allSound ds ≡ true → allSound (after q ds) ≡ true
+unfolding afterAt
+after-sound q ds s = go (eqb (numberAt (length ds) q ds) 0) refl
+  where
+    go : (b : Bool) → eqb (numberAt (length ds) q ds) 0 ≡ b → allSound (if b (served q ds) ds) ≡ true
+    go true e = served-sound q ds (number-says q ds (eqb-true _ 0 e))
+    go false e = s
+
+-- any list of calls
+pub all-sound : Soundness
+unfolding afterAll
+all-sound [] ds s = s
+all-sound (q ∷ qs) ds s = all-sound qs (after q ds) (after-sound q ds s)

@@ -1,0 +1,10 @@
+-- `calls::next_access` meets its contract. Assumes nothing.
+use Rattle.calls.proofs.Next.{next-access}
+use Rattle.calls.proofs.next_access.Statement.{statement}
+use Rattle.calls.proofs.next_access.Tie as tie
+
+returns : tie.Need-returns
+returns c = next-access
+
+pub next-access-spec : {M : Type 1} → statement M
+next-access-spec = tie.close (tie.spec returns)

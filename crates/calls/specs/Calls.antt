@@ -1,0 +1,33 @@
+-- Document 01: the calls on a chain, with their arguments. Drivers are counted from 1, driver 1 nearest the controller.
+-- Assumes nothing.
+use Prim.Native.Nat.{ℕ}
+use mathlib.Core.List.{List}
+
+-- what is given to one driver
+pub data Step : Type 0 where
+  -- a key scan: the closed keys of groups A to D
+  scan : ℕ → ℕ → ℕ → ℕ → Step
+  -- pin levels
+  levels : ℕ → Step
+  -- master clocks
+  clocks : ℕ → Step
+
+-- what one driver is asked
+pub data Question : Type 0 where
+  -- the part of the plane shown: the lent planes P0 and P1, first and last digit
+  plane : List ℕ → List ℕ → ℕ → ℕ → Question
+  -- the pins of a cathode: cathode, the glyph tables for 14 and for 16 segments
+  segments : ℕ → List ℕ → List ℕ → Question
+  -- the brightness of a digit
+  brightness : ℕ → Question
+  -- the interrupt
+  interrupt : Question
+
+-- a call
+pub data Call : Type 0 where
+  -- clocks, the bytes sent, and the bytes that have room for the answer
+  access : ℕ → List ℕ → List ℕ → Call
+  -- driver, and what it is given
+  give : ℕ → Step → Call
+  -- driver, and what it is asked
+  ask : ℕ → Question → Call

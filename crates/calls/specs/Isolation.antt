@@ -1,0 +1,100 @@
+-- Document 01, "Demand 3's list and lone driver".
+-- Assumes nothing.
+use Prim.Native.Nat.{ℕ, _-_, _*_, _≤_}
+use mathlib.Core.Bool.{Bool, true}
+use mathlib.Core.List.{List, [], _∷_, _++_, map}
+use mathlib.Core.Path.{_≡_}
+use lib.Dec.{eqb}
+use lib.ListN.{length}
+use Rattle.words.specs.Choice.{if}
+use Rattle.wire.specs.Bits.{bits, value, unpack, wordAt}
+use Rattle.device.specs.Words.{taken}
+use Rattle.device.specs.declared.Device.{Device}
+use Rattle.calls.specs.Calls.{Question, Call, access, give, ask}
+use Rattle.calls.specs.Numbers.{allSound, numberBy}
+use Rattle.calls.specs.Served.{recordOf, stepped, answerTo, reply}
+use Rattle.calls.specs.Lists.{afterAll, numbers, replies}
+
+-- the number that the table gives a call on n sound records, by its arguments alone
+abbrev pub numberAlone : ℕ → Call → ℕ
+numberAlone n q = numberBy n true q
+
+-- accepted means that the table gives 0
+abbrev pub accepted : ℕ → Call → Bool
+accepted n q = eqb (numberAlone n q) 0
+
+-- of the n words in bytes, the first is driver n's, the last driver 1's
+abbrev pub ownWord : ℕ → ℕ → List ℕ → ℕ
+ownWord n i bytes = wordAt (unpack bytes) (n - i)
+
+-- what an accepted call makes of the lone driver, driver i of n: of an access it takes its own word and obeys it; a step is for its driver
+abbrev pub loneStep : ℕ → ℕ → Call → Device → Device
+loneStep n i (access c sent room) d = taken d (ownWord n i sent)
+loneStep n i (give j s) d = if (eqb j i) (stepped s d) d
+loneStep n i (ask j q) d = d
+
+-- what it answers to an accepted call: to an access its shift word, by its 16 bits; to a question for its driver from its record
+abbrev pub loneReply : ℕ → Call → Device → List (List ℕ)
+loneReply i (access c sent room) d = (value (bits 16 (d .shift)) ∷ []) ∷ []
+loneReply i (give j s) d = []
+loneReply i (ask j q) d = if (eqb j i) (answerTo q d ∷ []) []
+
+-- what driver i of n has answered, in what the chain gave back to an accepted call
+abbrev pub heard : ℕ → ℕ → Call → List ℕ → List (List ℕ)
+heard n i (access c sent room) back = (ownWord n i back ∷ []) ∷ []
+heard n i (give j s) back = []
+heard n i (ask j q) back = if (eqb j i) (back ∷ []) []
+
+-- the lone driver after one call; a refused one does nothing
+abbrev pub loneAfter : ℕ → ℕ → Call → Device → Device
+loneAfter n i q d = if (accepted n q) (loneStep n i q d) d
+
+-- the lone driver after a list of calls
+unfoldable pub lone : ℕ → ℕ → List Call → Device → Device
+lone n i [] d = d
+lone n i (q ∷ qs) d = lone n i qs (loneAfter n i q d)
+
+-- all that the lone driver answers to a list of calls
+unfoldable pub loneReplies : ℕ → ℕ → List Call → Device → List (List ℕ)
+loneReplies n i [] d = []
+loneReplies n i (q ∷ qs) d = if (accepted n q) (loneReply i q d) [] ++ loneReplies n i qs (loneAfter n i q d)
+
+-- all that driver i of the chain has answered to a list of calls
+unfoldable pub heardAll : ℕ → ℕ → List Call → List (List ℕ) → List (List ℕ)
+heardAll n i [] backs = []
+heardAll n i (q ∷ qs) [] = []
+heardAll n i (q ∷ qs) (back ∷ backs) = if (accepted n q) (heard n i q back) [] ++ heardAll n i qs backs
+
+-- an accepted access has 16n clocks
+abbrev pub Full : ℕ → Call → Type 0
+Full n (access c sent room) = accepted n (access c sent room) ≡ true → c ≡ 16 * n
+Full n (give j s) = Unit {0}
+Full n (ask j q) = Unit {0}
+
+-- so has every accepted access of a list
+unfoldable pub AllFull : ℕ → List Call → Type 0
+AllFull n [] = Unit {0}
+AllFull n (q ∷ qs) = Full n q × AllFull n qs
+
+-- after a list of calls on a chain, driver i is as it would be alone
+pub record Alone (qs : List Call) (ds : List Device) (i : ℕ) : Type 0 where
+  -- every call's number is the one that its arguments alone have
+  pub same-numbers : numbers qs ds ≡ map (numberAlone (length ds)) qs
+  -- its record is the lone driver's
+  pub same-record : recordOf (afterAll qs ds) i ≡ lone (length ds) i qs (recordOf ds i)
+  -- it has answered what the lone driver answers, in order
+  pub same-answers : heardAll (length ds) i qs (replies qs ds) ≡ loneReplies (length ds) i qs (recordOf ds i)
+  -- its outputs are the lone driver's: the interrupt, the plane shown, each cathode's pins under any glyph tables, each digit's brightness
+  pub same-outputs : (q : Question) → accepted (length ds) (ask i q) ≡ true
+      → reply (ask i q) (afterAll qs ds) ≡ answerTo q (lone (length ds) i qs (recordOf ds i))
+
+-- demand 3: for sound records, over any list of calls in which accepted accesses have 16n clocks, each driver
+abbrev pub Isolation : Type 0
+Isolation =
+    (qs : List Call) (ds : List Device)
+    → allSound ds ≡ true
+    → AllFull (length ds) qs
+    → (i : ℕ)
+    → 1 ≤ i
+    → i ≤ length ds
+    → Alone qs ds i

@@ -1,0 +1,47 @@
+-- Demand 2: a read's answer comes out in the next accepted access, never in its own.
+-- Assumes nothing.
+use Prim.Native.Nat.{ℕ, _-_, _*_, _/_, _%_, _≤_}
+use mathlib.Core.Bool.{true, false}
+use mathlib.Core.List.{List, [], _∷_}
+use mathlib.Core.Path.{_≡_}
+use lib.ListN.{length, getD}
+use Rattle.words.specs.Choice.{bit}
+use Rattle.words.specs.Words.{readAt}
+use Rattle.wire.specs.Bits.{bits, value}
+use Rattle.wire.specs.Wire.{shifted}
+use Rattle.registers.specs.Registers.{dataOf}
+use Rattle.device.specs.Words.{answerWord}
+use Rattle.device.specs.declared.Device.{Device}
+use Rattle.calls.specs.Calls.{Call, access, give, ask}
+use Rattle.calls.specs.Numbers.{allSound}
+use Rattle.calls.specs.Served.{recordOf, shiftWords, number, after, reply}
+use Rattle.calls.specs.Lists.{afterAll}
+use Rattle.calls.specs.Isolation.{accepted, ownWord}
+
+-- no call of a list is an accepted access
+unfoldable pub NoAccess : ℕ → List Call → Type 0
+NoAccess n [] = Unit {0}
+NoAccess n (access c sent room ∷ qs) = (accepted n (access c sent room) ≡ false) × NoAccess n qs
+NoAccess n (give j s ∷ qs) = NoAccess n qs
+NoAccess n (ask j q ∷ qs) = NoAccess n qs
+
+-- the word that driver i takes in an access
+abbrev pub wordTaken : List Device → ℕ → List ℕ → ℕ → ℕ
+wordTaken ds c sent i = getD (shifted (shiftWords ds) sent c) (i - 1) 0
+
+-- a read word in an accepted access, and the next accepted one
+pub record NextAccess : Type 0 where
+  -- the next one, of at least 16 clocks for each driver, answers at driver i's place the read word, with the data that its register had before
+  pub comes-next : (ds : List Device) (c : ℕ) (sent room : List ℕ) (qs : List Call) (next : ℕ) (nextSent nextRoom : List ℕ) (i : ℕ)
+      → 1 ≤ i → i ≤ length ds
+      → number (access c sent room) ds ≡ 0
+      → bit 15 (wordTaken ds c sent i) ≡ true
+      → NoAccess (length ds) qs
+      → number (access next nextSent nextRoom) (afterAll qs (after (access c sent room) ds)) ≡ 0
+      → 16 * length ds ≤ next
+      → ownWord (length ds) i (reply (access next nextSent nextRoom) (afterAll qs (after (access c sent room) ds)))
+      ≡ value (bits 16 (answerWord (wordTaken ds c sent i) (dataOf (recordOf ds i .registers) (readAt (wordTaken ds c sent i / 256 % 128)))))
+  -- an access answers by the shift words before it and the bits sent alone, whatever the registers hold
+  pub not-its-own : (ds es : List Device) (c : ℕ) (sent room : List ℕ)
+      → shiftWords ds ≡ shiftWords es → allSound ds ≡ allSound es
+      → reply (access c sent room) ds ≡ reply (access c sent room) es

@@ -1,0 +1,99 @@
+-- Document 01, "Bits on the wire", "Keys", "Blink", "Segments and brightness": what a call leaves and gives back, served or refused.
+-- Assumes nothing.
+use Prim.Native.Nat.{ℕ, _-_}
+use mathlib.Core.List.{List, [], _∷_, _++_, map}
+use lib.Dec.{eqb}
+use lib.ListN.{length, getD, set, drop}
+use Rattle.words.specs.Choice.{if}
+use Rattle.words.specs.Lists.{tabulate}
+use Rattle.wire.specs.Bits.{bytesFor}
+use Rattle.wire.specs.Wire.{answer, shifted}
+use Rattle.blink.specs.Part.{planePart}
+use Rattle.device.specs.PowerUp.{powerUp}
+use Rattle.device.specs.Record.{withPins}
+use Rattle.device.specs.Words.{taken}
+use Rattle.device.specs.Steps.{scanned, clocked, shownPlane}
+use Rattle.device.specs.declared.Device.{Device}
+use Rattle.brightness.specs.Brightness.{brightnessOf}
+use Rattle.display.specs.Pins.{pinNumber, segmentsOf}
+use Rattle.display.specs.declared.Pin.the-variants.{NotDriven}
+use Rattle.calls.specs.Calls.{Step, scan, levels, clocks, Question, plane, segments, brightness, interrupt, Call, access, give, ask}
+use Rattle.calls.specs.Numbers.{allSound, numberBy}
+
+-- driver j's record
+abbrev pub recordOf : List Device → ℕ → Device
+recordOf ds j = getD ds (j - 1) powerUp
+
+-- driver j's record replaced
+abbrev pub withRecord : List Device → ℕ → Device → List Device
+withRecord ds j d = set ds (j - 1) d
+
+-- the shift words, driver 1's first
+abbrev pub shiftWords : List Device → List ℕ
+shiftWords ds = map (λ (d : Device). d .shift) ds
+
+-- every driver takes its word
+abbrev pub allTaken : List Device → List ℕ → List Device
+allTaken ds ws = tabulate (length ds) (λ i. taken (getD ds i powerUp) (getD ws i 0))
+
+-- a driver that is given a scan, pin levels or master clocks
+abbrev pub stepped : Step → Device → Device
+stepped (scan a b c d) x = scanned x a b c d
+stepped (levels l) x = withPins x l
+stepped (clocks k) x = clocked x k
+
+-- what a driver answers, from its record and what is lent: the part, the 19 pins, the sixteenths, the interrupt
+abbrev pub answerTo : Question → Device → List ℕ
+answerTo (plane p0 p1 first last) x = planePart (shownPlane x) p0 p1 first last
+answerTo (segments d font14 font16) x = segmentsOf x d font14 font16 .pins
+answerTo (brightness i) x = brightnessOf x i ∷ []
+answerTo interrupt x = x .registers .keys .interrupt ∷ []
+
+-- a refused answer: the part is empty, no pin is driven, a number is 0
+abbrev pub refusedTo : Question → List ℕ
+refusedTo (plane p0 p1 first last) = []
+refusedTo (segments d font14 font16) = tabulate 19 (λ p. pinNumber NotDriven)
+refusedTo (brightness i) = 0 ∷ []
+refusedTo interrupt = 0 ∷ []
+
+-- the records that a served call leaves; a question changes none
+abbrev pub served : Call → List Device → List Device
+served (access c sent room) ds = allTaken ds (shifted (shiftWords ds) sent c)
+served (give j s) ds = withRecord ds j (stepped s (recordOf ds j))
+served (ask j q) ds = ds
+
+-- what a served call gives back: an access the bytes that it was lent, with the answer in front
+abbrev pub givenBack : Call → List Device → List ℕ
+givenBack (access c sent room) ds = answer (shiftWords ds) sent c ++ drop (bytesFor c) room
+givenBack (give j s) ds = []
+givenBack (ask j q) ds = answerTo q (recordOf ds j)
+
+-- what a refused call gives back: an access the bytes as they were
+abbrev pub refusedBack : Call → List ℕ
+refusedBack (access c sent room) = room
+refusedBack (give j s) = []
+refusedBack (ask j q) = refusedTo q
+
+-- the number of a call on a row whose length counts as n
+unfoldable pub numberAt : ℕ → Call → List Device → ℕ
+numberAt n q ds = numberBy n (allSound ds) q
+
+-- the records after it; apart from 0 nothing changes
+unfoldable pub afterAt : ℕ → Call → List Device → List Device
+afterAt n q ds = if (eqb (numberAt n q ds) 0) (served q ds) ds
+
+-- what it gives back
+unfoldable pub replyAt : ℕ → Call → List Device → List ℕ
+replyAt n q ds = if (eqb (numberAt n q ds) 0) (givenBack q ds) (refusedBack q)
+
+-- the number of a call on a chain
+abbrev pub number : Call → List Device → ℕ
+number q ds = numberAt (length ds) q ds
+
+-- the chain's records after it
+abbrev pub after : Call → List Device → List Device
+after q ds = afterAt (length ds) q ds
+
+-- what it gives back beside its number
+abbrev pub reply : Call → List Device → List ℕ
+reply q ds = replyAt (length ds) q ds

@@ -1,0 +1,25 @@
+// The calls on a chain of MAX6954, and the theorems over whole lists of them.
+ghost use Rattle.calls.specs.Soundness.{Soundness};
+ghost use Rattle.calls.specs.NextAccess.{NextAccess};
+ghost use Rattle.calls.specs.Isolation.{Isolation};
+ghost use Rattle.calls.specs.Examples.{Examples};
+
+// A theorem: calls leave sound records sound.
+pub fn soundness()
+    ensures { λ _. ⌜ Soundness ⌝ }
+{}
+
+// A theorem: a read's answer comes out in the next accepted access, never in its own.
+pub fn next_access()
+    ensures { λ _. ⌜ NextAccess ⌝ }
+{}
+
+// A theorem, demand 3: after any list of calls each driver is as it would be alone.
+pub fn isolation()
+    ensures { λ _. ⌜ Isolation ⌝ }
+{}
+
+// A theorem: the bench examples.
+pub fn examples()
+    ensures { λ _. ⌜ Examples ⌝ }
+{}

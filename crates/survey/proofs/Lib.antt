@@ -1,0 +1,4 @@
+pub mod SurveyLaws
+pub mod Ladder
+pub mod CallLaws
+pub mod ChainLaws

@@ -1,0 +1,166 @@
+-- A survey record by record, and a change record by record.
+-- Assumes nothing.
+use Prim.Native.Nat.{ℕ, zero, suc, _+_, _-_, _≤_, _<_}
+use native.Mathlib.Nat.{le-of-suc-le-suc, not-suc-le-zero}
+use native.Mathlib.Numerals.{add-one}
+use native.Mathlib.Omega.{arith}
+use native.Mathlib.Decide.{decLt}
+use mathlib.Core.Bool.{Bool, true, false, _&&_}
+use mathlib.Core.List.{List, [], _∷_, _++_, map, append-assoc}
+use mathlib.Core.Path.{_≡_, refl, sym, ap, _∙_}
+use lib.Dec.{eqb, leb, ltb}
+use lib.ListN.{length, getD, set, take, drop, replicate, length-append, length-replicate, length-set, List·getD-eq-default, length-map, length-take}
+use lib.Seq.{take-suc, drop-cons, set-at, getD-take, length-take-le, ext-getD, getD-set-same, getD-set-other}
+use borrow.Author.Tests.{leb-true, leb-false, ltb-false, eqb-true, eqb-false, eq-eqb, ne-eqb, lt-ltb, le-ltb, ltb-true, le-leb, lt-leb}
+use Rattle.words.specs.Choice.{if}
+use Rattle.words.specs.Lists.{tabulate}
+use Rattle.words.proofs.Lists.{length-tabulate, getD-tabulate, tabulate-ext}
+use Rattle.device.specs.PowerUp.{powerUp}
+use Rattle.device.specs.Sound.{soundOf}
+use Rattle.device.specs.declared.Device.{Device}
+use Rattle.calls.specs.Numbers.{allSound}
+use Rattle.calls.specs.Served.{shiftWords}
+use Rattle.survey.specs.Survey.{counted, names, started, seenAlso, surveyAt}
+use Rattle.survey.specs.Change.{stopOf, nextOf, appliedTo}
+use Rattle.survey.specs.declared.Survey.{Survey}
+use Rattle.survey.specs.declared.Change.{Change}
+
+pub counted-le : (n : ℕ) → counted n ≤ n
+counted-le n = go (ltb n 17)
+  where
+    go : (b : Bool) → if b n 0 ≤ n
+    go true = omega arith
+    go false = omega arith
+
+pub counted-16 : (n : ℕ) → counted n ≤ 16
+counted-16 n = go (ltb n 17) refl
+  where
+    go : (b : Bool) → ltb n 17 ≡ b → if b n 0 ≤ 16
+    go true e = omega (arith, ltb-true n 17 e)
+    go false e = omega arith
+
+pub survey-start : (n : ℕ) (xs : List Device) (driver : ℕ) → started n driver ≡ surveyAt n xs driver 0
+unfolding allSound
+survey-start n xs driver = ap (λ (d : Device). record { n = n; driver = driver; unsound = 0; words = replicate 16 0; named = d }) (go (ltb 0 driver))
+  where
+    go : (b : Bool) → powerUp ≡ if b powerUp powerUp
+    go true = refl
+    go false = refl
+
+-- one more record is sound too
+all-more : (ds : List Device) (d : Device) → allSound (ds ++ d ∷ []) ≡ allSound ds && soundOf d
+unfolding allSound
+all-more [] d = go (soundOf d)
+  where
+    go : (b : Bool) → b && true ≡ b
+    go true = refl
+    go false = refl
+all-more (x ∷ ds) d = rw (all-more ds d) (go (soundOf x))
+  where
+    go : (b : Bool) → b && (allSound ds && soundOf d) ≡ b && allSound ds && soundOf d
+    go true = refl
+    go false = refl
+
+map-more : {A B : Type 0} (f : A → B) (xs : List A) (x : A) → map f (xs ++ x ∷ []) ≡ map f xs ++ f x ∷ []
+map-more f [] x = refl
+map-more {B = B} f (y ∷ xs) x = ap (λ (t : List B). f y ∷ t) (map-more f xs x)
+
+module _ (n : ℕ) (xs : List Device) (driver k : ℕ) (h : k < length xs) (low : k < 16) where
+  more : take (k + 1) xs ≡ take k xs ++ getD xs k powerUp ∷ []
+  more = rw add-one (take-suc xs k powerUp h)
+
+  unsound-more : _≡_ {A = ℕ} (if (soundOf (getD xs k powerUp)) (if (allSound (take k xs)) 0 1) 1) (if (allSound (take (k + 1) xs)) 0 1)
+  unsound-more = rw (more, all-more (take k xs) (getD xs k powerUp)) (go (soundOf (getD xs k powerUp)) (allSound (take k xs)))
+    where
+      go : (s a : Bool) → _≡_ {A = ℕ} (if s (if a 0 1) 1) (if (a && s) 0 1)
+      go true true = refl
+      go true false = refl
+      go false true = refl
+      go false false = refl
+
+  words-more : set (shiftWords (take k xs) ++ drop k (replicate 16 0)) k (getD xs k powerUp .shift) ≡ shiftWords (take (k + 1) xs) ++ drop (k + 1) (replicate 16 0)
+  words-more =
+      let f : Device → ℕ = λ d. d .shift in
+      let l : length (shiftWords (take k xs)) ≡ k = length-map (take k xs) f ∙ length-take-le k xs (omega arith) in
+      let zeros : List ℕ = replicate 16 0 in
+      rw (more, map-more f (take k xs) (getD xs k powerUp), drop-cons zeros k 0 low, set-at (shiftWords (take k xs)) _ _ (getD xs k powerUp .shift) k l, add-one, append-assoc)
+
+  named-more : if (names driver k) (getD xs k powerUp) (if (ltb 0 driver) (getD (take k xs) (driver - 1) powerUp) powerUp)
+      ≡ if (ltb 0 driver) (getD (take (k + 1) xs) (driver - 1) powerUp) powerUp
+  named-more = go (ltb 0 driver) (eqb (driver - 1) k) refl
+    where
+      go : (a b : Bool) → eqb (driver - 1) k ≡ b → if (a && b) (getD xs k powerUp) (if a (getD (take k xs) (driver - 1) powerUp) powerUp)
+          ≡ if a (getD (take (k + 1) xs) (driver - 1) powerUp) powerUp
+      go false b e = refl
+      go true true e = rw (eqb-true (driver - 1) k e) (sym (getD-take (k + 1) xs k powerUp (omega arith)))
+      go true false e = other (decLt (driver - 1) k)
+        where
+          past : (m : ℕ) → m ≤ driver - 1 → getD (take m xs) (driver - 1) powerUp ≡ powerUp
+          past m g = List·getD-eq-default (take m xs) powerUp (rw length-take (omega arith))
+
+          other : Dec (driver - 1 < k) → getD (take k xs) (driver - 1) powerUp ≡ getD (take (k + 1) xs) (driver - 1) powerUp
+          other (yes l) = getD-take k xs (driver - 1) powerUp l ∙ sym (getD-take (k + 1) xs (driver - 1) powerUp (omega arith))
+          other (no l) = past k (omega arith) ∙ sym (past (k + 1) (omega (arith, eqb-false (driver - 1) k e)))
+
+  pub survey-more : seenAlso (surveyAt n xs driver k) k (getD xs k powerUp) ≡ surveyAt n xs driver (k + 1)
+  survey-more = rw (unsound-more, words-more, named-more)
+
+-- a change record by record
+module _ (xs : List Device) (c : Change) where
+  -- the record at index i where those before index k are changed
+  at : ℕ → ℕ → Device
+  at k i = if (leb (c .first) i && ltb i k) (nextOf c i (getD xs i powerUp)) (getD xs i powerUp)
+
+  pub length-applied : (k : ℕ) → length (appliedTo xs c k) ≡ length xs
+  length-applied k = length-tabulate (length xs) _
+
+  pub at-applied : (k i : ℕ) → i < length xs → getD (appliedTo xs c k) i powerUp ≡ if (leb (c .first) i && ltb i k) (nextOf c i (getD xs i powerUp)) (getD xs i powerUp)
+  at-applied k i l = getD-tabulate (length xs) _ powerUp i l
+
+  pub applied-start : appliedTo xs c (c .first) ≡ xs
+  applied-start = ext-getD powerUp (appliedTo xs c (c .first)) xs (length-applied (c .first)) (λ i l.
+      let h : i < length xs = rw (length-applied (c .first)) at l in
+      at-applied (c .first) i h ∙ go i (leb (c .first) i) refl)
+    where
+      go : (i : ℕ) (b : Bool) → leb (c .first) i ≡ b → if (b && ltb i (c .first)) (nextOf c i (getD xs i powerUp)) (getD xs i powerUp) ≡ getD xs i powerUp
+      go i true e = rw (le-ltb i (c .first) (leb-true (c .first) i e))
+      go i false e = refl
+
+  pub applied-more : (i : ℕ) → c .first ≤ i → i < length xs → set (appliedTo xs c i) i (nextOf c i (getD (appliedTo xs c i) i powerUp)) ≡ appliedTo xs c (i + 1)
+  applied-more i f h =
+      let l : length (appliedTo xs c i) ≡ length xs = length-applied i in
+      let same : getD (appliedTo xs c i) i powerUp ≡ getD xs i powerUp = at-applied i i h ∙ rw (le-leb (c .first) i f, le-ltb i i (omega arith)) in
+      ext-getD powerUp _ _ (length-set (appliedTo xs c i) i _ ∙ l ∙ sym (length-applied (i + 1))) (λ j lj.
+      let hj : j < length xs = rw (length-set, l) at lj in
+      rw (same, at-applied (i + 1) j hj) (go j hj (eqb j i) refl))
+    where
+      go : (j : ℕ) → j < length xs → (b : Bool) → eqb j i ≡ b → getD (set (appliedTo xs c i) i (nextOf c i (getD xs i powerUp))) j powerUp
+          ≡ if (leb (c .first) j && ltb j (i + 1)) (nextOf c j (getD xs j powerUp)) (getD xs j powerUp)
+      go j hj true e =
+          let q : j ≡ i = eqb-true j i e in
+          let lo : i < length (appliedTo xs c i) = rw (length-applied i) h in
+          rw (q, getD-set-same (appliedTo xs c i) i (nextOf c i (getD xs i powerUp)) powerUp lo, le-leb (c .first) i f, lt-ltb i (i + 1) (omega arith))
+      go j hj false e =
+          let ne : j ≡ i → ⊥ = eqb-false j i e in
+          getD-set-other (appliedTo xs c i) i j (nextOf c i (getD xs i powerUp)) powerUp ne ∙ at-applied i j hj
+          ∙ ap (λ (b : Bool). if (leb (c .first) j && b) (nextOf c j (getD xs j powerUp)) (getD xs j powerUp)) (below (decLt j i) ne)
+        where
+          below : Dec (j < i) → (j ≡ i → ⊥) → ltb j i ≡ ltb j (i + 1)
+          below (yes l) ne = rw (lt-ltb j i l, lt-ltb j (i + 1) (omega arith))
+          below (no l) ne = rw (le-ltb j i (omega arith), le-ltb j (i + 1) (omega (arith, ne)))
+
+pub stop-first : (c : Change) (n : ℕ) → c .first ≤ stopOf c n
+stop-first c n = go (leb (c .first) (c .end)) (leb (c .end) n) refl
+  where
+    go : (a b : Bool) → leb (c .first) (c .end) ≡ a → c .first ≤ if (a && b) (c .end) (c .first)
+    go true true e = leb-true (c .first) (c .end) e
+    go true false e = omega arith
+    go false b e = omega arith
+
+pub stop-le : (c : Change) (n i : ℕ) → c .first ≤ i → i < stopOf c n → i < n
+stop-le c n i h l = go (leb (c .first) (c .end)) (leb (c .end) n) refl l
+  where
+    go : (a b : Bool) → leb (c .end) n ≡ b → i < if (a && b) (c .end) (c .first) → i < n
+    go true true e k = omega (arith, leb-true (c .end) n e)
+    go true false e k = absurd (omega arith)
+    go false b e k = absurd (omega arith)

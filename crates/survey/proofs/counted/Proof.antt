@@ -1,0 +1,16 @@
+use Rattle.words.proofs.Tests.{tests}
+use Rattle.survey.proofs.counted.Statement.{statement}
+use Rattle.survey.proofs.counted.Tie as tie
+use Rattle.survey.proofs.counted.Reads as reads
+use Rattle.survey.proofs.counted.Lts as lts
+
+-- src/lib.rt:46:1
+returns : tie.Need-returns
+returns c = search tests
+
+-- src/lib.rt:46:1
+returns-2 : tie.Need-returns-2
+returns-2 c = search tests
+
+pub counted-spec : {M : Type 1} → statement M
+counted-spec = tie.close (tie.spec returns returns-2)

@@ -1,0 +1,4 @@
+pub mod BitLaws
+pub mod LineLaws
+pub mod SizeLaws
+pub mod WholeLaws

@@ -8,21 +8,20 @@ use mathlib.Core.List.{List, [], _∷_, _++_}
 use mathlib.Core.Path.{_≡_, refl, sym, ap, _∙_}
 use lib.Dec.{eqb, leb, ltb}
 use lib.ListN.{length, getD, set, take, drop, replicate, length-append, length-map, length-drop, take-append-drop, List·getD-append}
-use lib.Seq.{length-take-le, take-at, drop-at, getD-take, getD-drop, getD-append-add, ext-getD, set-append-left}
-use borrow.Author.Tests.{leb-true, eqb-true, eqb-false, eq-eqb, lt-ltb, le-ltb, ltb-true, le-leb, lt-leb}
+use lib.Seq.{length-take-le, take-at, getD-take, getD-drop, getD-append-add, ext-getD, set-append-left}
+use borrow.Author.Tests.{leb-true, eqb-true, eq-eqb, lt-ltb, le-ltb, ltb-true, le-leb}
 use Rattle.words.specs.Choice.{if}
 use Rattle.words.proofs.Lists.{length-tabulate, getD-tabulate}
 use Rattle.wire.specs.Bits.{bytesFor}
 use Rattle.wire.specs.Wire.{answer, shifted}
-use Rattle.wire.specs.Shift.{sizeNumber, fits, wordsAfter, roomAfter}
+use Rattle.wire.specs.Shift.{sizeNumber, fits, roomAfter}
 use Rattle.wire.proofs.WholeLaws.{length-shifted}
 use Rattle.device.specs.PowerUp.{powerUp}
-use Rattle.device.specs.Words.{taken}
 use Rattle.device.specs.declared.Device.{Device}
 use Rattle.calls.specs.Calls.{Step, Question, access, give, ask}
 use Rattle.calls.specs.Numbers.{chainNumber, driverNumber, stepNumber, questionNumber, soundNumber, allSound, firstOf}
 use Rattle.calls.specs.Served.{recordOf, withRecord, shiftWords, allTaken, stepped, answerTo, refusedTo, numberAt, afterAt, replyAt}
-use Rattle.survey.specs.Survey.{counted, surveyAt, surveyOf}
+use Rattle.survey.specs.Survey.{counted, surveyOf}
 use Rattle.survey.specs.Change.{stopOf, nextOf, appliedTo, applied}
 use Rattle.survey.specs.Calls.{namedNumber, accessNumber, changeTo, given, accessed, accessRoom, askedNumber, asked}
 use Rattle.survey.specs.declared.Survey.{Survey}
@@ -109,15 +108,16 @@ module _ (n : ℕ) (xs : List Device) (long : n < 17 → n ≤ length xs) where
   unfolding numberAt
   give-number j st = number-tie j (stepNumber st)
 
-  pub give-after : (j : ℕ) (st : Step) → applied n xs (given (surveyOf n xs j) st) ≡ afterAt n (give j st) (take n xs) ++ drop n xs
+  -- in room for m records
+  pub give-after : (m : ℕ) → (n < 17 → n ≤ m) → (j : ℕ) (st : Step) → applied m xs (given (surveyOf n xs j) st) ≡ afterAt n (give j st) (take n xs) ++ drop n xs
   unfolding afterAt
-  give-after j st = rw (← give-number j st) (go (namedNumber s (stepNumber st)) (named-zero s (stepNumber st)) (eqb (namedNumber s (stepNumber st)) 0) refl)
+  give-after m wide j st = rw (← give-number j st) (go (namedNumber s (stepNumber st)) (named-zero s (stepNumber st)) (eqb (namedNumber s (stepNumber st)) 0) refl)
     where
       s : Survey
       s = surveyOf n xs j
 
       go : (k : ℕ) → (k ≡ 0 → (chainNumber n ≡ 0) × (driverNumber n j ≡ 0) × (stepNumber st ≡ 0) × (soundNumber (eqb (s .unsound) 0) ≡ 0)) → (b : Bool) → eqb k 0 ≡ b
-          → applied n xs (changeTo s k (stepped st (s .named))) ≡ if b (withRecord (take n xs) j (stepped st (recordOf (take n xs) j))) (take n xs) ++ drop n xs
+          → applied m xs (changeTo s k (stepped st (s .named))) ≡ if b (withRecord (take n xs) j (stepped st (recordOf (take n xs) j))) (take n xs) ++ drop n xs
       go k h true e =
           let z : k ≡ 0 = eqb-true k 0 e in
           let t = h z in
@@ -126,10 +126,11 @@ module _ (n : ℕ) (xs : List Device) (long : n < 17 → n ≤ length xs) where
           let x : Device = stepped st (s .named) in
           let same : x ≡ stepped st (recordOf (take n xs) j) = ap (stepped st) (named-tie j (t .0) (t .1)) in
           let below : j - 1 < length (take n xs) = rw (length-chain (t .0)) (omega arith) in
-          ap (λ (m : ℕ). applied n xs (changeTo s m x)) z ∙ change-served n xs s x (r .0) (r .1) (omega arith)
+          let w : n ≤ m = wide (in-chain n (t .0) .1) in
+          ap (λ (v : ℕ). applied m xs (changeTo s v x)) z ∙ change-served m xs s x (r .0) (omega arith) (omega arith)
           ∙ ap (λ (ys : List Device). set ys (j - 1) x) (sym (take-append-drop n xs)) ∙ set-append-left (take n xs) (drop n xs) (j - 1) x below
           ∙ ap (λ (y : Device). set (take n xs) (j - 1) y ++ drop n xs) same
-      go k h false e = change-refused n xs s k _ e ∙ sym (take-append-drop n xs)
+      go k h false e = change-refused m xs s k _ e ∙ sym (take-append-drop n xs)
 
   pub ask-number : (j : ℕ) (q : Question) → askedNumber (surveyOf n xs j) q ≡ numberAt n (ask j q) (take n xs)
   unfolding numberAt
@@ -218,22 +219,22 @@ module _ (n : ℕ) (xs : List Device) (long : n < 17 → n ≤ length xs) where
           (sym (ap (λ (t : ℕ). getD (allTaken (take n xs) next ++ drop n xs) t powerUp) m
           ∙ getD-append-add (allTaken (take n xs) next) (drop n xs) (i - n) powerUp ∙ getD-drop n xs (i - n) powerUp ∙ ap (λ (t : ℕ). getD xs t powerUp) p))
 
-      all-taken : applied n xs change ≡ allTaken (take n xs) next ++ drop n xs
-      all-taken =
-          let stop : stopOf change n ≡ n = rw (e, le-leb 0 n (omega arith), le-leb n n (omega arith)) in
+      all-taken : (m : ℕ) → (n < 17 → n ≤ m) → applied m xs change ≡ allTaken (take n xs) next ++ drop n xs
+      all-taken m wide =
+          let stop : stopOf change m ≡ n = rw (e, le-leb 0 n (omega arith), le-leb n m (wide (in-chain n in-row .1))) in
           let l : length (appliedTo xs change n) ≡ length (allTaken (take n xs) next ++ drop n xs) =
           length-applied xs change n ∙ sym (length-append (allTaken (take n xs) next) (drop n xs) ∙ rw (length-taken, length-drop) (omega (arith, enough))) in
-          ap (λ (m : ℕ). appliedTo xs change m) stop
+          ap (λ (k : ℕ). appliedTo xs change k) stop
           ∙ ext-getD powerUp (appliedTo xs change n) _ l (λ i h.
           let b : i < length xs = rw (length-applied xs change n) at h in
           at-applied xs change n i b ∙ taken-tie i b (decLt i n))
 
-    pub access-after : applied n xs (accessed (surveyOf n xs j) c sent room) ≡ afterAt n (access c sent room) (take n xs) ++ drop n xs
+    pub access-after : (m : ℕ) → (n < 17 → n ≤ m) → applied m xs (accessed (surveyOf n xs j) c sent room) ≡ afterAt n (access c sent room) (take n xs) ++ drop n xs
     unfolding afterAt
-    access-after = rw (← access-number) (go (eqb given-number 0) refl)
+    access-after m wide = rw (← access-number) (go (eqb given-number 0) refl)
       where
-        go : (b : Bool) → eqb given-number 0 ≡ b → applied n xs change ≡ if b (allTaken (take n xs) next) (take n xs) ++ drop n xs
-        go true e = all-taken e
+        go : (b : Bool) → eqb given-number 0 ≡ b → applied m xs change ≡ if b (allTaken (take n xs) next) (take n xs) ++ drop n xs
+        go true e = all-taken e m wide
         go false e =
-            let stop : stopOf change n ≡ 0 = rw (e, le-leb 0 n (omega arith)) in
-            ap (λ (m : ℕ). appliedTo xs change m) stop ∙ applied-start xs change ∙ sym (take-append-drop n xs)
+            let stop : stopOf change m ≡ 0 = rw (e, le-leb 0 m (omega arith)) in
+            ap (λ (k : ℕ). appliedTo xs change k) stop ∙ applied-start xs change ∙ sym (take-append-drop n xs)

@@ -2,9 +2,9 @@
 -- Assumes nothing.
 use Prim.Native.Nat.{ℕ, _≤_, _<_}
 use native.Mathlib.Omega.{arith}
-use mathlib.Core.List.{List, [], _++_, append-nil}
-use mathlib.Core.Path.{_≡_, _∙_}
-use lib.ListN.{length, take, drop}
+use mathlib.Core.List.{List, append-nil}
+use mathlib.Core.Path.{_≡_}
+use lib.ListN.{length}
 use lib.Seq.{take-length, drop-length}
 use Rattle.device.specs.declared.Device.{Device}
 use Rattle.calls.specs.Calls.{Step, Question, access, give, ask}
@@ -18,18 +18,11 @@ module _ (ds : List Device) where
   long : length ds < 17 → length ds ≤ length ds
   long h = omega arith
 
-  -- the first n records of a chain of n are the chain, and none is left
-  back : {A : Type 0} (f : List Device → A) (x : A) → x ≡ f (take (length ds) ds) → x ≡ f ds
-  back f x e = rw take-length at e
-
-  whole : (xs : List Device) (f : List Device → List Device) → xs ≡ f (take (length ds) ds) ++ drop (length ds) ds → xs ≡ f ds
-  whole xs f e = e ∙ rw (drop-length, append-nil, take-length)
-
   pub give-number : (j : ℕ) (st : Step) → given (surveyOf (length ds) ds j) st .number ≡ number (give j st) ds
   give-number j st = rw take-length at (give-number-at (length ds) ds long j st)
 
   pub give-after : (j : ℕ) (st : Step) → applied (length ds) ds (given (surveyOf (length ds) ds j) st) ≡ after (give j st) ds
-  give-after j st = rw (take-length, drop-length, append-nil) at (give-after-at (length ds) ds long j st)
+  give-after j st = rw (take-length, drop-length, append-nil) at (give-after-at (length ds) ds long (length ds) long j st)
 
   pub ask-number : (j : ℕ) (q : Question) → askedNumber (surveyOf (length ds) ds j) q ≡ number (ask j q) ds
   ask-number j q = rw take-length at (ask-number-at (length ds) ds long j q)
@@ -42,7 +35,7 @@ module _ (ds : List Device) where
     access-number = rw take-length at (access-number-at (length ds) ds long 0 c sent room)
 
     pub access-after : applied (length ds) ds (accessed (surveyOf (length ds) ds 0) c sent room) ≡ after (access c sent room) ds
-    access-after = rw (take-length, drop-length, append-nil) at (access-after-at (length ds) ds long 0 c sent room)
+    access-after = rw (take-length, drop-length, append-nil) at (access-after-at (length ds) ds long 0 c sent room (length ds) long)
 
     pub access-reply : accessRoom (surveyOf (length ds) ds 0) c sent room ≡ reply (access c sent room) ds
     access-reply = rw take-length at (access-reply-at (length ds) ds long 0 c sent room)

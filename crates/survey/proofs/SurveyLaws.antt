@@ -1,7 +1,6 @@
 -- A survey record by record, and a change record by record.
 -- Assumes nothing.
-use Prim.Native.Nat.{ℕ, zero, suc, _+_, _-_, _≤_, _<_}
-use native.Mathlib.Nat.{le-of-suc-le-suc, not-suc-le-zero}
+use Prim.Native.Nat.{ℕ, _+_, _-_, _≤_, _<_}
 use native.Mathlib.Numerals.{add-one}
 use native.Mathlib.Omega.{arith}
 use native.Mathlib.Decide.{decLt}
@@ -9,12 +8,11 @@ use mathlib.Core.Bool.{Bool, true, false, _&&_}
 use mathlib.Core.List.{List, [], _∷_, _++_, map, append-assoc}
 use mathlib.Core.Path.{_≡_, refl, sym, ap, _∙_}
 use lib.Dec.{eqb, leb, ltb}
-use lib.ListN.{length, getD, set, take, drop, replicate, length-append, length-replicate, length-set, List·getD-eq-default, length-map, length-take}
+use lib.ListN.{length, getD, set, take, drop, replicate, length-set, List·getD-eq-default, length-map, length-take}
 use lib.Seq.{take-suc, drop-cons, set-at, getD-take, length-take-le, ext-getD, getD-set-same, getD-set-other}
-use borrow.Author.Tests.{leb-true, leb-false, ltb-false, eqb-true, eqb-false, eq-eqb, ne-eqb, lt-ltb, le-ltb, ltb-true, le-leb, lt-leb}
+use borrow.Author.Tests.{leb-true, eqb-true, eqb-false, lt-ltb, le-ltb, ltb-true, le-leb}
 use Rattle.words.specs.Choice.{if}
-use Rattle.words.specs.Lists.{tabulate}
-use Rattle.words.proofs.Lists.{length-tabulate, getD-tabulate, tabulate-ext}
+use Rattle.words.proofs.Lists.{length-tabulate, getD-tabulate}
 use Rattle.device.specs.PowerUp.{powerUp}
 use Rattle.device.specs.Sound.{soundOf}
 use Rattle.device.specs.declared.Device.{Device}
@@ -22,7 +20,6 @@ use Rattle.calls.specs.Numbers.{allSound}
 use Rattle.calls.specs.Served.{shiftWords}
 use Rattle.survey.specs.Survey.{counted, names, started, seenAlso, surveyAt}
 use Rattle.survey.specs.Change.{stopOf, nextOf, appliedTo}
-use Rattle.survey.specs.declared.Survey.{Survey}
 use Rattle.survey.specs.declared.Change.{Change}
 
 pub counted-le : (n : ℕ) → counted n ≤ n

@@ -168,7 +168,10 @@ fn named_number(s: Survey, own: u8) -> u8
 fn access_number(s: Survey, clocks: usize, sent: usize, room: usize) -> u8
     ensures { λ r. ⌜ r ≡ accessNumber s clocks sent room ⌝ }
 {
-    let size = first_of(wire::size_number(clocks, sent, room), sound_number(s.unsound));
+    let size = first_of(
+        wire::size_number(clocks, sent, room),
+        sound_number(s.unsound),
+    );
     first_of(chain_number(s.n), size)
 }
 

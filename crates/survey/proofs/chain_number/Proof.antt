@@ -1,13 +1,10 @@
+-- `survey::chain_number` meets its contract. Assumes nothing.
 use Rattle.survey.proofs.chain_number.Statement.{statement}
 use Rattle.survey.proofs.chain_number.Tie as tie
-use Rattle.survey.proofs.chain_number.Reads as reads
-use Rattle.survey.proofs.chain_number.Lts as lts
 
--- src/lib.rt:124:1
 returns : tie.Need-returns
 returns c = rw (c .if1 .taken)
 
--- src/lib.rt:124:1
 returns-2 : tie.Need-returns-2
 returns-2 c = rw (c .if1 .left)
 

@@ -1,14 +1,11 @@
+-- `survey::counted` meets its contract. Assumes nothing.
 use Rattle.words.proofs.Tests.{tests}
 use Rattle.survey.proofs.counted.Statement.{statement}
 use Rattle.survey.proofs.counted.Tie as tie
-use Rattle.survey.proofs.counted.Reads as reads
-use Rattle.survey.proofs.counted.Lts as lts
 
--- src/lib.rt:46:1
 returns : tie.Need-returns
 returns c = search tests
 
--- src/lib.rt:46:1
 returns-2 : tie.Need-returns-2
 returns-2 c = search tests
 

@@ -1,14 +1,11 @@
+-- `survey::first_of` meets its contract. Assumes nothing.
 use Rattle.words.proofs.Tests.{tests}
 use Rattle.survey.proofs.first_of.Statement.{statement}
 use Rattle.survey.proofs.first_of.Tie as tie
-use Rattle.survey.proofs.first_of.Reads as reads
-use Rattle.survey.proofs.first_of.Lts as lts
 
--- src/lib.rt:152:1
 returns : tie.Need-returns
 returns c = search tests
 
--- src/lib.rt:152:1
 returns-2 : tie.Need-returns-2
 returns-2 c = search tests
 

@@ -1,14 +1,11 @@
+-- `survey::levels_number` meets its contract. Assumes nothing.
 use Rattle.words.proofs.Tests.{tests}
 use Rattle.survey.proofs.levels_number.Statement.{statement}
 use Rattle.survey.proofs.levels_number.Tie as tie
-use Rattle.survey.proofs.levels_number.Reads as reads
-use Rattle.survey.proofs.levels_number.Lts as lts
 
--- src/lib.rt:138:1
 returns : tie.Need-returns
 returns c = search tests
 
--- src/lib.rt:138:1
 returns-2 : tie.Need-returns-2
 returns-2 c = search tests
 

@@ -1,23 +1,18 @@
-use Rattle.words.proofs.Arrays.{kept}
+-- `survey::put_word` meets its contract. Assumes nothing.
 use borrow.Author.Needs.{needs}
+use Rattle.words.proofs.Arrays.{kept}
 use Rattle.survey.proofs.put_word.Statement.{statement}
 use Rattle.survey.proofs.put_word.Tie as tie
-use Rattle.survey.proofs.put_word.Reads as reads
-use Rattle.survey.proofs.put_word.Lts as lts
 
--- src/lib.rt:64:9
 mul-words : tie.Need-mul-words
 mul-words c = search needs
 
--- src/lib.rt:64:9
 array-write-words : tie.Need-array-write-words
 array-write-words c = search needs
 
--- src/lib.rt:60:1
 returns : tie.Need-returns
 returns c = search needs
 
--- src/lib.rt:60:1
 returns-2 : tie.Need-returns-2
 returns-2 c = kept 16 (c .before .args .t1) (c .before .args .i) (c .before .args .w) (search needs) (search needs)
 

@@ -1,23 +1,18 @@
-use Rattle.words.proofs.Arrays.{past}
+-- `survey::word_at` meets its contract. Assumes nothing.
 use borrow.Author.Needs.{needs}
+use Rattle.words.proofs.Arrays.{past}
 use Rattle.survey.proofs.word_at.Statement.{statement}
 use Rattle.survey.proofs.word_at.Tie as tie
-use Rattle.survey.proofs.word_at.Reads as reads
-use Rattle.survey.proofs.word_at.Lts as lts
 
--- src/lib.rt:73:17
 mul-result : tie.Need-mul-result
 mul-result c = search needs
 
--- src/lib.rt:73:17
 array-read-result : tie.Need-array-read-result
 array-read-result c = search needs
 
--- src/lib.rt:70:1
 returns : tie.Need-returns
 returns c = search needs
 
--- src/lib.rt:70:1
 returns-2 : tie.Need-returns-2
 returns-2 c = past 16 (c .before .args .t1) (c .before .args .i) (search needs) (search needs)
 

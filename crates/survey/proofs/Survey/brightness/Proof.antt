@@ -1,33 +1,26 @@
+-- `survey::Survey::brightness` meets its contract. Assumes nothing.
 use mathlib.Core.Path.{_≡_, sym, ap, _∙_}
+use borrow.Author.Tests.{eq-eqb, ne-eqb}
+use borrow.Author.Needs.{needs}
 use Rattle.brightness.specs.Brightness.{brightnessNumber, brightnessOf}
 use Rattle.brightness.specs.declared.BrightnessAnswer.{BrightnessAnswer}
 use Rattle.survey.proofs.Ladder.{named-zero}
-use borrow.Author.Tests.{eq-eqb, ne-eqb}
-use borrow.Author.Needs.{needs}
 use Rattle.survey.proofs.Survey.brightness.Statement.{statement}
 use Rattle.survey.proofs.Survey.brightness.Tie as tie
-use Rattle.survey.proofs.Survey.brightness.Reads as reads
-use Rattle.survey.proofs.Survey.brightness.Lts as lts
-use Rattle.brightness.proofs.brightness.Reads as brightness-reads
-use Rattle.survey.proofs.named_number.Reads as named-number-reads
 
--- src/lib.rt:309:13
 brightness-requires : tie.Need-brightness-requires
 brightness-requires c κs = search needs
 
--- src/lib.rt:310:13
 named-number-requires : tie.Need-named-number-requires
 named-number-requires c κs = search needs
 
--- src/lib.rt:312:13
 returns : tie.Need-returns
-returns c = 
+returns c =
     let e = ap (λ (b : BrightnessAnswer). b .number) (c .before .before .brightness .ensures) in
     rw (← e) (rw (← c .before .named-number .ensures, ne-eqb _ 0 (c .if1 .taken)))
 
--- src/lib.rt:305:5
 returns-2 : tie.Need-returns-2
-returns-2 c = 
+returns-2 c =
     let b = c .before .before .brightness in
     let a = c .before .before .before .before .args in
     let e : b .result .number ≡ brightnessNumber (a .digit) = ap (λ (b : BrightnessAnswer). b .number) (b .ensures) in

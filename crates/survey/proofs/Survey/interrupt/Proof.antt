@@ -1,20 +1,15 @@
+-- `survey::Survey::interrupt` meets its contract. Assumes nothing.
 use borrow.Author.Tests.{eq-eqb, ne-eqb}
 use borrow.Author.Needs.{needs}
 use Rattle.survey.proofs.Survey.interrupt.Statement.{statement}
 use Rattle.survey.proofs.Survey.interrupt.Tie as tie
-use Rattle.survey.proofs.Survey.interrupt.Reads as reads
-use Rattle.survey.proofs.Survey.interrupt.Lts as lts
-use Rattle.survey.proofs.named_number.Reads as named-number-reads
 
--- src/lib.rt:322:13
 named-number-requires : tie.Need-named-number-requires
 named-number-requires c κs = search needs
 
--- src/lib.rt:324:13
 returns : tie.Need-returns
 returns c = rw (← c .before .named-number .ensures, ne-eqb _ 0 (c .if1 .taken))
 
--- src/lib.rt:319:5
 returns-2 : tie.Need-returns-2
 returns-2 c = rw (← c .before .before .named-number .ensures, eq-eqb _ 0 (c .before .if1 .left))
 

@@ -20,6 +20,8 @@ pub data Question : Type 0 where
   segments : ℕ → List ℕ → List ℕ → Question
   -- the brightness of a digit
   brightness : ℕ → Question
+  -- the plane shown
+  shown : Question
   -- the interrupt
   interrupt : Question
 

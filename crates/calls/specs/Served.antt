@@ -6,6 +6,8 @@ use lib.Dec.{eqb}
 use lib.ListN.{length, getD, set, drop}
 use Rattle.words.specs.Choice.{if}
 use Rattle.words.specs.Lists.{tabulate}
+use Rattle.words.specs.declared.Plane.{Plane}
+use Rattle.words.specs.declared.Plane.the-variants.{P0, P1}
 use Rattle.wire.specs.Bits.{bytesFor}
 use Rattle.wire.specs.Wire.{answer, shifted}
 use Rattle.blink.specs.Part.{planePart}
@@ -17,7 +19,7 @@ use Rattle.device.specs.declared.Device.{Device}
 use Rattle.brightness.specs.Brightness.{brightnessOf}
 use Rattle.display.specs.Pins.{pinNumber, segmentsOf}
 use Rattle.display.specs.declared.Pin.the-variants.{NotDriven}
-use Rattle.calls.specs.Calls.{Step, scan, levels, clocks, Question, plane, segments, brightness, interrupt, Call, access, give, ask}
+use Rattle.calls.specs.Calls.{Step, scan, levels, clocks, Question, plane, segments, brightness, shown, interrupt, Call, access, give, ask}
 use Rattle.calls.specs.Numbers.{allSound, numberBy}
 
 -- driver j's record
@@ -42,11 +44,17 @@ stepped (scan a b c d) x = scanned x a b c d
 stepped (levels l) x = withPins x l
 stepped (clocks k) x = clocked x k
 
--- what a driver answers, from its record and what is lent: the part, the 19 pins, the sixteenths, the interrupt
+-- a plane by its number
+abbrev pub planeIndex : Plane → ℕ
+planeIndex P0 = 0
+planeIndex P1 = 1
+
+-- what a driver answers, from its record and what is lent: the part, the 19 pins, the sixteenths, the plane shown, the interrupt
 abbrev pub answerTo : Question → Device → List ℕ
 answerTo (plane p0 p1 first last) x = planePart (shownPlane x) p0 p1 first last
 answerTo (segments d font14 font16) x = segmentsOf x d font14 font16 .pins
 answerTo (brightness i) x = brightnessOf x i ∷ []
+answerTo shown x = planeIndex (shownPlane x) ∷ []
 answerTo interrupt x = x .registers .keys .interrupt ∷ []
 
 -- a refused answer: the part is empty, no pin is driven, a number is 0
@@ -54,6 +62,7 @@ abbrev pub refusedTo : Question → List ℕ
 refusedTo (plane p0 p1 first last) = []
 refusedTo (segments d font14 font16) = tabulate 19 (λ p. pinNumber NotDriven)
 refusedTo (brightness i) = 0 ∷ []
+refusedTo shown = 0 ∷ []
 refusedTo interrupt = 0 ∷ []
 
 -- the records that a served call leaves; a question changes none

@@ -1,7 +1,7 @@
 // A chain of MAX6954 by value: the calls on a row of records.
 ghost use mathlib.Core.Path.{_≡_};
 ghost use lib.ListN.{length};
-ghost use Rattle.calls.specs.Calls.{access as accessCall, give, ask, scan as scanStep, levels as levelsStep, clocks as clocksStep, plane as planeQuestion, segments as segmentsQuestion, brightness as brightnessQuestion, interrupt as interruptQuestion};
+ghost use Rattle.calls.specs.Calls.{access as accessCall, give, ask, scan as scanStep, levels as levelsStep, clocks as clocksStep, plane as planeQuestion, segments as segmentsQuestion, brightness as brightnessQuestion, shown as shownQuestion, interrupt as interruptQuestion};
 ghost use Rattle.survey.specs.Survey.{surveyOf};
 ghost use Rattle.survey.specs.Change.{applied};
 ghost use Rattle.survey.specs.Calls.{only};
@@ -11,6 +11,7 @@ use device::Device;
 use display::SegmentAnswer;
 use survey::Change;
 use survey::InterruptAnswer;
+use survey::ShownAnswer;
 use survey::Survey;
 
 // A chain of n drivers: the first n of sixteen records. Calls on a row of none, or of more than 16, are refused with 1.
@@ -168,6 +169,14 @@ impl Row {
     {
         let s = self.survey(driver);
         s.brightness(digit)
+    }
+
+    // The plane that one driver shows.
+    pub fn shown(self, driver: usize) -> ShownAnswer
+        ensures { λ r. ⌜ r ≡ record { number = numberOn self (ask driver shownQuestion); plane = only (replyOn self (ask driver shownQuestion)) } ⌝ }
+    {
+        let s = self.survey(driver);
+        s.shown()
     }
 
     // Whether the interrupt of one driver is raised.

@@ -4,7 +4,8 @@ ghost use Prim.Native.Nat.{_-_};
 ghost use lib.Dec.{eqb};
 ghost use lib.ListN.{getD, set};
 ghost use Rattle.words.specs.Choice.{if};
-ghost use Rattle.calls.specs.Calls.{scan as scanStep, levels as levelsStep, clocks as clocksStep, plane as planeQuestion, segments as segmentsQuestion, brightness as brightnessQuestion, interrupt as interruptQuestion};
+ghost use Rattle.calls.specs.Calls.{scan as scanStep, levels as levelsStep, clocks as clocksStep, plane as planeQuestion, segments as segmentsQuestion, brightness as brightnessQuestion, shown as shownQuestion, interrupt as interruptQuestion};
+ghost use Rattle.calls.specs.Served.{planeIndex};
 ghost use Rattle.calls.specs.Numbers.{chainNumber, driverNumber, stepNumber, soundNumber};
 ghost use Rattle.survey.specs.Survey.{counted, names, started, seenAlso};
 ghost use Rattle.survey.specs.Change.{stopOf, nextOf};
@@ -12,6 +13,7 @@ ghost use Rattle.survey.specs.Calls.{namedNumber, accessNumber, changeTo
 use brightness::BrightnessAnswer;
 use device::Device;
 use display::SegmentAnswer;
+use words::Plane;
 
 // What a call needs to know of a chain.
 pub struct Survey {
@@ -36,6 +38,13 @@ pub struct Change {
     pub shifts: u8,
     pub words: [u16; 16],
     pub named: Device,
+}
+
+// An answer: its number, and the plane shown, 0 for P0 and 1 for P1.
+#[repr(C)]
+pub struct ShownAnswer {
+    pub number: u8,
+    pub plane: u8,
 }
 
 // An answer: its number, and 1 where the interrupt is raised.
@@ -207,6 +216,16 @@ fn change_to(s: Survey, number: u8, d: Device) -> Change
     }
 }
 
+// The number of a plane.
+fn plane_index(plane: Plane) -> u8
+    ensures { λ r. ⌜ r ≡ planeIndex plane ⌝ }
+{
+    match plane {
+        Plane::P0 => 0,
+        Plane::P1 => 1,
+    }
+}
+
 // The calls by value.
 impl Survey {
     // A key scan of the named driver: the closed keys of groups A to D.
@@ -320,6 +339,24 @@ impl Survey {
         BrightnessAnswer {
             number: number,
             sixteenths: answer.sixteenths,
+        }
+    }
+
+    // The plane that the named driver shows.
+    pub fn shown(self) -> ShownAnswer
+        ensures { λ r. ⌜ r ≡ record { number = askedNumber self shownQuestion; plane = only (asked self shownQuestion) } ⌝ }
+    {
+        let number = named_number(self, 0);
+        if number != 0 {
+            return ShownAnswer {
+                number: number,
+                plane: 0,
+            };
+        }
+        let named = self.named;
+        ShownAnswer {
+            number: number,
+            plane: plane_index(named.shown()),
         }
     }
 

@@ -1,0 +1,24 @@
+-- `chain::max6954_interrupt` has the shape of `Asks.antt`, with `Survey::interrupt` for the work.
+-- Assumes nothing.
+use mathlib.Core.Path.{_≡_}
+use mathlib.Core.List.{[]}
+use denote.Triple.Table.{cited}
+use Rattle.calls.specs.Calls.{interrupt}
+use Rattle.survey.specs.Calls.{only}
+use Rattle.survey.proofs.Survey.interrupt.Symbol as work-def
+use Rattle.survey.proofs.Survey.interrupt.Met as work-thm
+use Rattle.chain.proofs.Records.{interruptAnswer}
+use Rattle.chain.proofs.Params.{held}
+use Rattle.chain.proofs.Asks.{asks-spec}
+use Rattle.chain.proofs.surveyed.Symbol as surveyed-def
+use Rattle.chain.proofs.surveyed.Met as surveyed-thm
+use Rattle.chain.proofs.max6954_interrupt.Key as key
+use Rattle.chain.proofs.max6954_interrupt.Statement.{statement}
+use Rattle.chain.proofs.max6954_interrupt.Code as code
+
+pub max6954-interrupt-spec : {M : Type 1} → statement M
+unfolding code.routine
+max6954-interrupt-spec 𝓤 H 𝓜 𝓖 𝓡 =
+    asks-spec work-def.name 0 [] (held interruptAnswer) (λ p. interrupt) (λ r n l. r ≡ record { number = n; raised = only l })
+    𝓤 H 𝓜 𝓖 𝓡 code.env key.name (code.unfolded 𝓤 H 𝓜 𝓡) (cited 𝓤 H _ 𝓜 𝓡 code.env surveyed-def.name surveyed-def.routine code.calls-chain·surveyed (surveyed-thm.met 𝓤 H 𝓜 𝓖 𝓡))
+    (cited 𝓤 H _ 𝓜 𝓡 code.env work-def.name work-def.routine code.calls-survey·Survey·interrupt (work-thm.met 𝓤 H 𝓜 𝓖 𝓡))

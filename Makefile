@@ -1,4 +1,10 @@
 # make test: the gate. Everything is proved from nothing, every wrong version is tried, then our own tests run.
-.PHONY: test
+# make bench: the speed of the exported calls beside plain C.
+.PHONY: test bench
 test:
 	@sh tests/gate
+
+bench:
+	@rt staticlib chain >/dev/null
+	@$(CC) -std=c11 -Wall -Wextra -O2 -Iinclude bench/speed.c target/staticlib/libchain.a -o target/speed
+	@target/speed

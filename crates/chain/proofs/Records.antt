@@ -7,6 +7,8 @@ use denote.Struct.Laws as LL
 use Rattle.survey.specs.declared.Change.{Change}
 use Rattle.device.proofs.Device as D
 use Rattle.device.proofs.Device.Laws as D′
+use Rattle.survey.proofs.Seen as N
+use Rattle.survey.proofs.Seen.Laws as N′
 use Rattle.survey.proofs.Survey as S
 use Rattle.survey.proofs.Survey.Laws as S′
 use Rattle.survey.proofs.Change as C
@@ -33,6 +35,9 @@ word = num w32
 abbrev pub device : Data
 device = rec D.the-type D′.the-laws D′.the-plain D′.the-copy
 
+abbrev pub seen : Data
+seen = rec N.the-type N′.the-laws N′.the-plain N′.the-copy
+
 abbrev pub survey : Data
 survey = rec S.the-type S′.the-laws S′.the-plain S′.the-copy
 
@@ -53,4 +58,4 @@ interruptAnswer = rec I.the-type I′.the-laws I′.the-plain I′.the-copy
 
 -- the number of a change that is a value of its type is a byte
 pub number-fits : (c : Change) → Is (change .row) c (change .val c ∷ []) → c .number < 2 ^ 8
-number-fits c is = LL.owed C.the-type C′.the-laws c (change .val c ∷ []) is .0 .1
+number-fits c is = LL.owed C.the-type C′.the-laws c (change .val c ∷ []) is .1 .1 .1 .1 .1 .0 .1

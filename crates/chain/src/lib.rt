@@ -11,6 +11,7 @@ use device::Device;
 use display::SegmentAnswer;
 use survey::Change;
 use survey::InterruptAnswer;
+use survey::Seen;
 use survey::ShownAnswer;
 use survey::Survey;
 
@@ -20,13 +21,17 @@ fn surveyed(chain: &[Device], driver: usize) -> Survey
 {
     let n = chain.len();
     let m = survey::counted(n);
-    let mut s = Survey::new(n, driver);
+    let mut s = Seen::new();
     let mut i = 0;
     while i < m {
-        s = s.seen(i, chain[i]);
+        s = s.with(i, chain[i]);
         i += 1;
     }
-    s
+    let at = survey::place(driver, m);
+    if at < m {
+        return Survey::new(n, driver, s, chain[at]);
+    }
+    Survey::unnamed(n, driver, s)
 }
 
 // The records that a call changes, changed in place; its number is returned.

@@ -11,6 +11,7 @@ use device::Device;
 use display::SegmentAnswer;
 use survey::Change;
 use survey::InterruptAnswer;
+use survey::Seen;
 use survey::ShownAnswer;
 use survey::Survey;
 
@@ -31,14 +32,19 @@ fn surveyed(devices: [Device; 16], n: usize, driver: usize) -> Survey
     ensures { λ r. ⌜ (r ≡ surveyOf n devices driver) × (length devices ≡ 16) ⌝ }
 {
     let m = survey::counted(n);
-    let mut s = Survey::new(n, driver);
+    let mut s = Seen::new();
     let mut i = 0;
     while i < m {
         let d = devices[i];
-        s = s.seen(i, d);
+        s = s.with(i, d);
         i += 1;
     }
-    s
+    let at = survey::place(driver, m);
+    if at < m {
+        let named = devices[at];
+        return Survey::new(n, driver, s, named);
+    }
+    Survey::unnamed(n, driver, s)
 }
 
 // Sixteen records after a change.

@@ -10,7 +10,7 @@ use mathlib.Core.Path.{_≡_, refl, sym, ap, _∙_}
 use lib.Dec.{eqb, leb, ltb}
 use lib.ListN.{length, getD, set, take, drop, replicate, length-set, List·getD-eq-default, length-map, length-take}
 use lib.Seq.{take-suc, drop-cons, set-at, getD-take, length-take-le, ext-getD, getD-set-same, getD-set-other}
-use borrow.Author.Tests.{leb-true, eqb-true, eqb-false, lt-ltb, le-ltb, ltb-true, le-leb}
+use borrow.Author.Tests.{leb-true, leb-false, eqb-true, eqb-false, lt-ltb, le-ltb, ltb-true, le-leb}
 use Rattle.words.specs.Choice.{if}
 use Rattle.words.proofs.Lists.{length-tabulate, getD-tabulate}
 use Rattle.device.specs.PowerUp.{powerUp}
@@ -18,7 +18,7 @@ use Rattle.device.specs.Sound.{soundOf}
 use Rattle.device.specs.declared.Device.{Device}
 use Rattle.calls.specs.Numbers.{allSound}
 use Rattle.calls.specs.Served.{shiftWords}
-use Rattle.survey.specs.Survey.{counted, names, started, seenAlso, surveyAt}
+use Rattle.survey.specs.Survey.{counted, placeOf, nothingSeen, seenAlso, seenAt}
 use Rattle.survey.specs.Change.{stopOf, nextOf, appliedTo}
 use Rattle.survey.specs.declared.Change.{Change}
 
@@ -36,13 +36,9 @@ counted-16 n = go (ltb n 17) refl
     go true e = omega (arith, ltb-true n 17 e)
     go false e = omega arith
 
-pub survey-start : (n : ℕ) (xs : List Device) (driver : ℕ) → started n driver ≡ surveyAt n xs driver 0
+pub seen-start : (xs : List Device) → nothingSeen ≡ seenAt xs 0
 unfolding allSound
-survey-start n xs driver = ap (λ (d : Device). record { n = n; driver = driver; unsound = 0; words = replicate 16 0; named = d }) (go (ltb 0 driver))
-  where
-    go : (b : Bool) → powerUp ≡ if b powerUp powerUp
-    go true = refl
-    go false = refl
+seen-start xs = refl
 
 -- one more record is sound too
 all-more : (ds : List Device) (d : Device) → allSound (ds ++ d ∷ []) ≡ allSound ds && soundOf d
@@ -62,7 +58,7 @@ map-more : {A B : Type 0} (f : A → B) (xs : List A) (x : A) → map f (xs ++ x
 map-more f [] x = refl
 map-more {B = B} f (y ∷ xs) x = ap (λ (t : List B). f y ∷ t) (map-more f xs x)
 
-module _ (n : ℕ) (xs : List Device) (driver k : ℕ) (h : k < length xs) (low : k < 16) where
+module _ (xs : List Device) (k : ℕ) (h : k < length xs) (low : k < 16) where
   more : take (k + 1) xs ≡ take k xs ++ getD xs k powerUp ∷ []
   more = rw add-one (take-suc xs k powerUp h)
 
@@ -82,25 +78,31 @@ module _ (n : ℕ) (xs : List Device) (driver k : ℕ) (h : k < length xs) (low 
       let zeros : List ℕ = replicate 16 0 in
       rw (more, map-more f (take k xs) (getD xs k powerUp), drop-cons zeros k 0 low, set-at (shiftWords (take k xs)) _ _ (getD xs k powerUp .shift) k l, add-one, append-assoc)
 
-  named-more : if (names driver k) (getD xs k powerUp) (if (ltb 0 driver) (getD (take k xs) (driver - 1) powerUp) powerUp)
-      ≡ if (ltb 0 driver) (getD (take (k + 1) xs) (driver - 1) powerUp) powerUp
-  named-more = go (ltb 0 driver) (eqb (driver - 1) k) refl
+  pub seen-more : seenAlso (seenAt xs k) k (getD xs k powerUp) ≡ seenAt xs (k + 1)
+  seen-more = rw (unsound-more, words-more)
+
+-- the named driver's record, of the first m
+module _ (xs : List Device) (driver m : ℕ) where
+  abbrev pub namedOf : Device
+  namedOf = if (ltb 0 driver) (getD (take m xs) (driver - 1) powerUp) powerUp
+
+  -- it is found at its place, which is below m
+  pub named-there : placeOf driver m < m → getD xs (placeOf driver m) powerUp ≡ namedOf
+  named-there = go (ltb 0 driver) (leb driver m) refl
     where
-      go : (a b : Bool) → eqb (driver - 1) k ≡ b → if (a && b) (getD xs k powerUp) (if a (getD (take k xs) (driver - 1) powerUp) powerUp)
-          ≡ if a (getD (take (k + 1) xs) (driver - 1) powerUp) powerUp
-      go false b e = refl
-      go true true e = rw (eqb-true (driver - 1) k e) (sym (getD-take (k + 1) xs k powerUp (omega arith)))
-      go true false e = other (decLt (driver - 1) k)
-        where
-          past : (m : ℕ) → m ≤ driver - 1 → getD (take m xs) (driver - 1) powerUp ≡ powerUp
-          past m g = List·getD-eq-default (take m xs) powerUp (rw length-take (omega arith))
+      go : (a b : Bool) → leb driver m ≡ b → if (a && b) (driver - 1) m < m → getD xs (if (a && b) (driver - 1) m) powerUp ≡ if a (getD (take m xs) (driver - 1) powerUp) powerUp
+      go true true e l = sym (getD-take m xs (driver - 1) powerUp l)
+      go true false e l = absurd (omega arith)
+      go false b e l = absurd (omega arith)
 
-          other : Dec (driver - 1 < k) → getD (take k xs) (driver - 1) powerUp ≡ getD (take (k + 1) xs) (driver - 1) powerUp
-          other (yes l) = getD-take k xs (driver - 1) powerUp l ∙ sym (getD-take (k + 1) xs (driver - 1) powerUp (omega arith))
-          other (no l) = past k (omega arith) ∙ sym (past (k + 1) (omega (arith, eqb-false (driver - 1) k e)))
-
-  pub survey-more : seenAlso (surveyAt n xs driver k) k (getD xs k powerUp) ≡ surveyAt n xs driver (k + 1)
-  survey-more = rw (unsound-more, words-more, named-more)
+  -- or it isn't there
+  pub named-none : m ≤ placeOf driver m → powerUp ≡ namedOf
+  named-none = go (ltb 0 driver) (leb driver m) refl refl
+    where
+      go : (a b : Bool) → ltb 0 driver ≡ a → leb driver m ≡ b → m ≤ if (a && b) (driver - 1) m → powerUp ≡ if a (getD (take m xs) (driver - 1) powerUp) powerUp
+      go true true d e l = absurd (omega (arith, ltb-true 0 driver d, leb-true driver m e))
+      go true false d e l = sym (List·getD-eq-default (take m xs) powerUp (rw length-take (omega (arith, leb-false driver m e))))
+      go false b d e l = refl
 
 -- a change record by record
 module _ (xs : List Device) (c : Change) where

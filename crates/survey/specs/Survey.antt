@@ -1,9 +1,9 @@
 -- What a call needs to know of a chain, found in one pass over its records.
 -- Assumes nothing.
 use Prim.Native.Nat.{ℕ, _-_}
-use mathlib.Core.Bool.{Bool, _&&_}
+use mathlib.Core.Bool.{_&&_}
 use mathlib.Core.List.{List, _++_}
-use lib.Dec.{eqb, ltb}
+use lib.Dec.{leb, ltb}
 use lib.ListN.{getD, set, take, drop, replicate}
 use Rattle.words.specs.Choice.{if}
 use Rattle.device.specs.PowerUp.{powerUp}
@@ -11,42 +11,38 @@ use Rattle.device.specs.Sound.{soundOf}
 use Rattle.device.specs.declared.Device.{Device}
 use Rattle.calls.specs.Numbers.{allSound}
 use Rattle.calls.specs.Served.{shiftWords}
+use Rattle.survey.specs.declared.Seen.{Seen}
 use Rattle.survey.specs.declared.Survey.{Survey}
 
 -- how many records of n are looked at: none where there are more than 16
 abbrev pub counted : ℕ → ℕ
 counted n = if (ltb n 17) n 0
 
--- the record at index i is the named driver's
-abbrev pub names : ℕ → ℕ → Bool
-names driver i = ltb 0 driver && eqb (driver - 1) i
+-- the index of a driver among m records, m where it isn't in 1..m
+abbrev pub placeOf : ℕ → ℕ → ℕ
+placeOf driver m = if (ltb 0 driver && leb driver m) (driver - 1) m
 
--- nothing seen yet of n records
-abbrev pub started : ℕ → ℕ → Survey
-started n driver = record { n = n; driver = driver; unsound = 0; words = replicate 16 0; named = powerUp }
+-- nothing seen yet
+abbrev pub nothingSeen : Seen
+nothingSeen = record { unsound = 0; words = replicate 16 0 }
 
 -- the record at index i seen too
-abbrev pub seenAlso : Survey → ℕ → Device → Survey
-seenAlso s i d =
-    record {
-      n = s .n;
-      driver = s .driver;
-      unsound = if (soundOf d) (s .unsound) 1;
-      words = set (s .words) i (d .shift);
-      named = if (names (s .driver) i) d (s .named);
-    }
+abbrev pub seenAlso : Seen → ℕ → Device → Seen
+seenAlso s i d = record { unsound = if (soundOf d) (s .unsound) 1; words = set (s .words) i (d .shift) }
 
--- what the first k records of xs tell, of n
-abbrev pub surveyAt : ℕ → List Device → ℕ → ℕ → Survey
-surveyAt n xs driver k =
+-- what the first k records tell
+abbrev pub seenAt : List Device → ℕ → Seen
+seenAt xs k =
     record {
-      n = n;
-      driver = driver;
       unsound = if (allSound (take k xs)) 0 1;
       words = shiftWords (take k xs) ++ drop k (replicate 16 0);
-      named = if (ltb 0 driver) (getD (take k xs) (driver - 1) powerUp) powerUp;
     }
 
--- what the first n records of xs tell
+-- a survey of n records, with the named driver's
+abbrev pub surveyBy : ℕ → ℕ → Seen → Device → Survey
+surveyBy n driver s d = record { n = n; driver = driver; unsound = s .unsound; words = s .words; named = d }
+
+-- what the first n records of xs tell; a driver that isn't among them has the power-up record
 abbrev pub surveyOf : ℕ → List Device → ℕ → Survey
-surveyOf n xs driver = surveyAt n xs driver (counted n)
+surveyOf n xs driver =
+    surveyBy n driver (seenAt xs (counted n)) (if (ltb 0 driver) (getD (take (counted n) xs) (driver - 1) powerUp) powerUp)

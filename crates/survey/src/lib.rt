@@ -4,10 +4,11 @@ ghost use Prim.Native.Nat.{_-_};
 ghost use lib.Dec.{eqb};
 ghost use lib.ListN.{getD, set};
 ghost use Rattle.words.specs.Choice.{if};
+ghost use Rattle.device.specs.PowerUp.{powerUp};
 ghost use Rattle.calls.specs.Calls.{scan as scanStep, levels as levelsStep, clocks as clocksStep, plane as planeQuestion, segments as segmentsQuestion, brightness as brightnessQuestion, shown as shownQuestion, interrupt as interruptQuestion};
 ghost use Rattle.calls.specs.Served.{planeIndex};
 ghost use Rattle.calls.specs.Numbers.{chainNumber, driverNumber, stepNumber, soundNumber};
-ghost use Rattle.survey.specs.Survey.{counted, names, started, seenAlso};
+ghost use Rattle.survey.specs.Survey.{counted, placeOf, nothingSeen, seenAlso, surveyBy};
 ghost use Rattle.survey.specs.Change.{stopOf, nextOf};
 ghost use Rattle.survey.specs.Calls.{namedNumber, accessNumber, changeTo, given, accessed, accessRoom, askedNumber, asked, only};
 use brightness::BrightnessAnswer;
@@ -15,29 +16,37 @@ use device::Device;
 use display::SegmentAnswer;
 use words::Plane;
 
+// What a pass over a chain's records finds of them all.
+pub struct Seen {
+    // The shift words, driver 1's first.
+    pub words: [u16; 16],
+    // 1 where some record isn't sound.
+    pub unsound: u8,
+}
+
 // What a call needs to know of a chain.
 pub struct Survey {
+    // The shift words, driver 1's first.
+    pub words: [u16; 16],
+    // The named driver's record.
+    pub named: Device,
     // The number of records.
     pub n: usize,
     // The driver that the call names, 0 for none.
     pub driver: usize,
     // 1 where some record isn't sound.
     pub unsound: u8,
-    // The shift words, driver 1's first.
-    pub words: [u16; 16],
-    // The named driver's record.
-    pub named: Device,
 }
 
 // What a call leaves: its number, and the records from index first to before end, changed.
 pub struct Change {
-    pub number: u8,
+    pub words: [u16; 16],
+    pub named: Device,
     pub first: usize,
     pub end: usize,
     // 1: each takes its word. 0: it becomes the named record.
     pub shifts: u8,
-    pub words: [u16; 16],
-    pub named: Device,
+    pub number: u8,
 }
 
 // An answer: its number, and the plane shown, 0 for P0 and 1 for P1.
@@ -61,11 +70,16 @@ pub fn counted(n: usize) -> usize
     if n < 17 { n } else { 0 }
 }
 
-// The record at index i is the named driver's.
-fn names(driver: usize, i: usize) -> bool
-    ensures { λ r. ⌜ r ≡ names driver i ⌝ }
+// The index of a driver among m records, m where it isn't in 1..m.
+pub fn place(driver: usize, m: usize) -> usize
+    ensures { λ r. ⌜ r ≡ placeOf driver m ⌝ }
 {
-    if 0 < driver { driver - 1 == i } else { false }
+    if 0 < driver {
+        if driver <= m {
+            return driver - 1;
+        }
+    }
+    m
 }
 
 // A word of sixteen replaced; past the end nothing changes.
@@ -92,40 +106,50 @@ fn unsound_too(before: u8, sound: bool) -> u8
     if sound { before } else { 1 }
 }
 
-// d where the test holds, else e.
-fn chosen(test: bool, d: Device, e: Device) -> Device
-    ensures { λ r. ⌜ r ≡ if test d e ⌝ }
-{
-    if test { d } else { e }
-}
-
-impl Survey {
-    // Nothing seen yet of n records.
-    pub fn new(n: usize, driver: usize) -> Survey
-        ensures { λ r. ⌜ r ≡ started n driver ⌝ }
+impl Seen {
+    // Nothing seen yet.
+    pub fn new() -> Seen
+        ensures { λ r. ⌜ r ≡ nothingSeen ⌝ }
     {
-        Survey {
-            n: n,
-            driver: driver,
-            unsound: 0,
+        Seen {
             words: [0; 16],
-            named: Device::POWER_UP,
+            unsound: 0,
         }
     }
 
     // The record at index i seen too.
-    pub fn seen(self, i: usize, d: Device) -> Survey
+    pub fn with(self, i: usize, d: Device) -> Seen
         ensures { λ r. ⌜ r ≡ seenAlso self i d ⌝ }
     {
         let words = self.words;
-        let named = self.named;
-        Survey {
-            n: self.n,
-            driver: self.driver,
-            unsound: unsound_too(self.unsound, d.sound()),
+        Seen {
             words: put_word(words, i, d.shift),
-            named: chosen(names(self.driver, i), d, named),
+            unsound: unsound_too(self.unsound, d.sound()),
         }
+    }
+}
+
+impl Survey {
+    // Of n records, with the named driver's.
+    pub fn new(n: usize, driver: usize, seen: Seen, named: Device) -> Survey
+        ensures { λ r. ⌜ r ≡ surveyBy n driver seen named ⌝ }
+    {
+        let words = seen.words;
+        Survey {
+            words: words,
+            named: named,
+            n: n,
+            driver: driver,
+            unsound: seen.unsound,
+        }
+    }
+
+    // The same where no driver of the chain is named.
+    pub fn unnamed(n: usize, driver: usize, seen: Seen) -> Survey
+        ensures { λ r. ⌜ r ≡ surveyBy n driver seen powerUp ⌝ }
+    {
+        let named = Device::new();
+        Survey::new(n, driver, seen, named)
     }
 }
 
@@ -198,21 +222,21 @@ fn change_to(s: Survey, number: u8, d: Device) -> Change
     let words = s.words;
     if number != 0 {
         return Change {
-            number: number,
+            words: words,
+            named: d,
             first: 0,
             end: 0,
             shifts: 0,
-            words: words,
-            named: d,
+            number: number,
         };
     }
     Change {
-        number: number,
+        words: words,
+        named: d,
         first: index_of(s.driver),
         end: s.driver,
         shifts: 0,
-        words: words,
-        named: d,
+        number: number,
     }
 }
 
@@ -264,22 +288,22 @@ impl Survey {
         let number = access_number(self, clocks, sent.len(), room.len());
         if number != 0 {
             return Change {
-                number: number,
+                words: words,
+                named: named,
                 first: 0,
                 end: 0,
                 shifts: 1,
-                words: words,
-                named: named,
+                number: number,
             };
         }
         let next = wire::shift(words, self.n, clocks, sent, room);
         Change {
-            number: number,
+            words: next,
+            named: named,
             first: 0,
             end: self.n,
             shifts: 1,
-            words: next,
-            named: named,
+            number: number,
         }
     }
 

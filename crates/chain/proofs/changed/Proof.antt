@@ -99,7 +99,7 @@ module _ {M : Type 1} (𝓤 : URA M) (H : Heap 𝓤) (A : Atoms 𝓤) (W : Given
       let same : i ≡ m = le-antisymm (t .1 .1) (nltb→le i m ended) in
       let long : length (zs m) ≡ n = length-applied ys c m in
       rewrite ! 0 (λ (k : ℕ). ‵ (row R fullShare (zs k) b o)) same refl $
-      assigns ! (of-opd ! (load ! (from ! (fld ! refl (stop !))) (look-in ! 11 (sub ! 0 refl (whole !))))) (from ! (stop !)) (init ! 31 refl (tt, record { fits = number-fits c is })) $
+      assigns ! (of-opd ! (load ! (from ! (fld ! refl (stop !))) (look-in ! 11 (sub ! 5 refl (whole !))))) (from ! (stop !)) (init ! 31 refl (tt, record { fits = number-fits c is })) $
       move ! (0 ∷ 12 ∷ 13 ∷ 14 ∷ []) $ closes-slice ! tt R ys (zs m) long b o $
       -- [obs; the borrow; the token; _4; _6; _7; _8; _9; _10; _11; _12; _3; _1; _2; true; the slice's fact; what change owns; …]
       returns ! (look ! 30 refl) $ leave ! 30 30 refl refl $ leave ! 12 28 refl refl $ leave ! 12 26 refl refl $ leave ! 11 24 refl refl $ leave ! 3 22 refl refl $ leave ! 20 20 refl refl $ leave ! 3 18 refl refl $

@@ -1,0 +1,19 @@
+-- `survey::Seen::with` meets its contract. Assumes nothing.
+use borrow.Author.Needs.{needs}
+use Rattle.survey.proofs.Seen.with.Statement.{statement}
+use Rattle.survey.proofs.Seen.with.Tie as tie
+
+put-word-requires : tie.Need-put-word-requires
+put-word-requires c κs = search needs
+
+sound-requires : tie.Need-sound-requires
+sound-requires c κs = search needs
+
+unsound-too-requires : tie.Need-unsound-too-requires
+unsound-too-requires c κs = search needs
+
+returns : tie.Need-returns
+returns c = simp (c .before .before .put-word .ensures, c .before .sound .ensures, c .unsound-too .ensures)
+
+pub with-spec : {M : Type 1} → statement M
+with-spec = tie.close (tie.spec put-word-requires sound-requires unsound-too-requires returns)

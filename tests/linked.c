@@ -1,0 +1,137 @@
+/* The exported calls from C: bench examples on a chain, and each number with nothing changed. */
+#include <stdio.h>
+#include <string.h>
+#include "ratchetelm.h"
+
+_Static_assert(sizeof(max6954_device) == 80, "the record has 80 bytes");
+
+static const max6954_device POWER_UP = MAX6954_POWER_UP;
+static max6954_device chain[17];
+static uint8_t answer[600];
+static int passed, failed;
+
+static void holds(const char *what, int yes)
+{
+    printf("%s: %s\n", yes ? "ok" : "FAILED", what);
+    if (yes)
+        passed++;
+    else
+        failed++;
+}
+
+static void fresh(void)
+{
+    for (int i = 0; i < 17; i++)
+        chain[i] = POWER_UP;
+    memset(answer, 0xEE, sizeof answer);
+}
+
+/* An access with just the bytes that it needs. */
+static int sent(size_t n, size_t clocks, const char *bytes)
+{
+    return max6954_access(chain, n, clocks, (const uint8_t *)bytes, (clocks + 7) / 8, answer, (clocks + 7) / 8);
+}
+
+static int answered(const char *bytes, size_t count)
+{
+    return memcmp(answer, bytes, count) == 0 && answer[count] == 0xEE;
+}
+
+static void examples(void)
+{
+    fresh();
+    int one = sent(1, 16, "\x04\x01") == 0 && answered("\x00\x00", 2);
+    one = one && sent(1, 16, "\x84\x00") == 0 && answered("\x04\x01", 2);
+    holds("example 1: 0000, 0401, 8481", one && sent(1, 16, "\x00\x00") == 0 && answered("\x84\x81", 2));
+    fresh();
+    int two = sent(1, 17, "\x81\x01\xFF") == 0 && chain[0].registers.controls.global == 3;
+    holds("example 2: 17 clocks, global intensity 3; spare bits sent are ignored, answered 0", two && answered("\x00\x00\x80", 3));
+    int three = max6954_access(chain, 1, 0, NULL, 0, NULL, 0) == 0;
+    holds("example 3: 0 clocks, 0203 again", three && chain[0].shift == 0x0203 && chain[0].registers.controls.global == 3);
+    fresh();
+    int four = sent(2, 32, "\x00\x00\x03\x03") == 0 && chain[0].registers.controls.limit == 3;
+    holds("example 4: 32 clocks to two drivers", four && chain[1].registers.controls.limit == 7 && chain[1].shift == 0);
+    fresh();
+    int five = sent(2, 16, "\x03\x05") == 0 && chain[0].registers.controls.limit == 5 && chain[0].shift == 0x0305;
+    holds("example 5: 16 clocks to two drivers", five && chain[1].shift == 0 && chain[1].registers.controls.limit == 7);
+}
+
+static max6954_device records[17];
+static uint8_t room[600];
+
+static void remember(void)
+{
+    memcpy(records, chain, sizeof chain);
+    memcpy(room, answer, sizeof answer);
+}
+
+/* A call gave its number, and changed no record and no answer byte. */
+static void refused(const char *what, int number, int given)
+{
+    holds(what, number == given && memcmp(records, chain, sizeof chain) == 0 && memcmp(room, answer, sizeof answer) == 0);
+}
+
+static void refusals(void)
+{
+    static uint8_t bytes[600], plane[16];
+    static uint16_t font[128];
+    fresh();
+    remember();
+    refused("1: no record", 1, max6954_access(NULL, 0, 4097, NULL, 0, NULL, 0));
+    refused("1: seventeen records", 1, max6954_scan(chain, 17, 18, 1, 1, 1, 1));
+    refused("2: driver 0", 2, max6954_set_pins(chain, 3, 0, 32));
+    refused("2: driver 4 of 3", 2, max6954_add_clocks(chain, 3, 4, 1));
+    refused("3: 4,097 clocks", 3, max6954_access(chain, 3, 4097, bytes, 0, answer, 0));
+    refused("4: sent bytes too few", 4, max6954_access(chain, 3, 17, bytes, 2, answer, 2));
+    refused("5: room too small", 5, max6954_access(chain, 3, 17, bytes, 3, answer, 2));
+    refused("6: pin levels of 32", 6, max6954_set_pins(chain, 3, 1, 32));
+    refused("6: cathode 8", 6, max6954_segments(chain, 3, 1, 8, font, 128, font, 128).number);
+    refused("6: a table of 127", 6, max6954_segments(chain, 3, 1, 0, font, 128, font, 127).number);
+    refused("6: digit 16", 6, max6954_brightness(chain, 3, 1, 16).number);
+    refused("6: last digit below the first", 6, max6954_plane_number(chain, 3, 1, plane, 16, plane, 16, 5, 4));
+    chain[2].registers.controls.limit = 8;
+    remember();
+    refused("7: an unsound record, whichever driver is named", 7, max6954_interrupt(chain, 3, 1).number);
+    refused("7: an unsound record, in an access", 7, max6954_access(chain, 3, 48, bytes, 6, answer, 6));
+}
+
+static void questions(void)
+{
+    static uint16_t font[128];
+    static const uint8_t p0[16] = { 0, 1, 2, 3 }, p1[16] = { 9, 8, 7, 6 };
+    fresh();
+    /* driver 2: normal operation, blinking slowly; digit 0 is an A with its point */
+    int served = sent(2, 32, "\x04\x09\x00\x00") == 0 && sent(2, 32, "\x60\x8A\x00\x00") == 0;
+    static const uint8_t pins[19] = { 1, 0, 2, 4, 2, 2, 3, 2, 2, 2, 2, 2, 2, 2, 2, 2, 2, 3, 3 };
+    max6954_segment_answer s = max6954_segments(chain, 2, 2, 0, font, 128, font, 128);
+    holds("segments: A with its point on cathode 0", served && s.number == 0 && memcmp(s.pins, pins, 19) == 0);
+    max6954_segment_answer dark = max6954_segments(chain, 2, 1, 0, font, 128, font, 128);
+    int none = dark.number == 0;
+    for (int i = 0; i < 19; i++)
+        none = none && dark.pins[i] == MAX6954_NOT_DRIVEN;
+    holds("segments: a driver in shutdown is dark", none);
+    max6954_brightness_answer b = max6954_brightness(chain, 2, 2, 15);
+    holds("brightness: 1 of 16 at power-up", b.number == 0 && b.sixteenths == 1);
+    holds("the plane shown is P0 before 2,000,000 clocks", max6954_plane(chain, 2, 2, p0, 16, p1, 16, 1, 2) == p0 + 1);
+    int later = max6954_add_clocks(chain, 2, 2, 2000000) == 0 && max6954_shown(chain, 2, 2).plane == 1;
+    holds("and P1 after them", later && max6954_plane(chain, 2, 2, p0, 16, p1, 16, 1, 2) == p1 + 1);
+    holds("a refused part is NULL", max6954_plane(chain, 2, 3, p0, 16, p1, 16, 1, 2) == NULL);
+    /* group A configured, key 0 masked: two scans debounce it */
+    int keyed = sent(2, 32, "\x06\x20\x00\x00") == 0 && sent(2, 32, "\x08\x01\x00\x00") == 0;
+    keyed = keyed && max6954_scan(chain, 2, 2, 1, 0, 0, 0) == 0 && max6954_interrupt(chain, 2, 2).raised == 0;
+    holds("the interrupt is raised at the second scan",
+          keyed && max6954_scan(chain, 2, 2, 1, 0, 0, 0) == 0 && max6954_interrupt(chain, 2, 2).raised == 1);
+    int read = sent(2, 32, "\x88\x00\x00\x00") == 0 && answered("\x08\x01\x00\x00", 4) && max6954_interrupt(chain, 2, 2).raised == 0;
+    holds("a read's answer comes out in the next access", read && sent(2, 32, "\x00\x00\x00\x00") == 0 && answered("\x88\x01\x00\x00", 4));
+    int pins_given = max6954_set_pins(chain, 2, 2, 31) == 0;
+    holds("pin levels replace the driver's own", pins_given && chain[1].registers.pins == 31 && chain[0].registers.pins == 0);
+}
+
+int main(void)
+{
+    examples();
+    refusals();
+    questions();
+    printf("%d passed, %d failed\n", passed, failed);
+    return failed != 0;
+}

@@ -24,7 +24,7 @@ fn surveyed(chain: &[Device], driver: usize) -> Survey
     let mut s = Seen::new();
     let mut i = 0;
     while i < m {
-        s = s.with(i, chain[i]);
+        s = s.with(chain[i]);
         i += 1;
     }
     let at = survey::place(driver, m);

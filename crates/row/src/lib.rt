@@ -36,7 +36,7 @@ fn surveyed(devices: [Device; 16], n: usize, driver: usize) -> Survey
     let mut i = 0;
     while i < m {
         let d = devices[i];
-        s = s.with(i, d);
+        s = s.with(d);
         i += 1;
     }
     let at = survey::place(driver, m);

@@ -11,21 +11,25 @@ use lib.ListN.{length, getD, set, take, drop, replicate, length-append, length-m
 use lib.Seq.{length-take-le, take-at, getD-take, getD-drop, getD-append-add, ext-getD, set-append-left}
 use borrow.Author.Tests.{leb-true, eqb-true, eq-eqb, lt-ltb, le-ltb, ltb-true, le-leb}
 use Rattle.words.specs.Choice.{if}
+use Rattle.words.specs.Lists.{tabulate}
 use Rattle.words.proofs.Lists.{length-tabulate, getD-tabulate}
 use Rattle.wire.specs.Bits.{bytesFor}
 use Rattle.wire.specs.Wire.{answer, shifted}
 use Rattle.wire.specs.Shift.{sizeNumber, fits, roomAfter}
 use Rattle.wire.proofs.WholeLaws.{length-shifted}
+use Rattle.wire.proofs.LowLaws.{low, answer-low, shifted-low}
 use Rattle.device.specs.PowerUp.{powerUp}
 use Rattle.device.specs.declared.Device.{Device}
 use Rattle.calls.specs.Calls.{Step, Question, access, give, ask}
 use Rattle.calls.specs.Numbers.{chainNumber, driverNumber, stepNumber, questionNumber, soundNumber, allSound, firstOf}
 use Rattle.calls.specs.Served.{recordOf, withRecord, shiftWords, allTaken, stepped, answerTo, refusedTo, numberAt, afterAt, replyAt}
+use Rattle.survey.specs.Lanes.{noWords, wordsAdded, wordBack, wordsIn}
 use Rattle.survey.specs.Survey.{counted, surveyOf}
 use Rattle.survey.specs.Change.{stopOf, nextOf, appliedTo, applied}
 use Rattle.survey.specs.Calls.{namedNumber, accessNumber, changeTo, given, accessed, accessRoom, askedNumber, asked}
 use Rattle.survey.specs.declared.Survey.{Survey}
 use Rattle.survey.specs.declared.Change.{Change}
+use Rattle.survey.proofs.LaneLaws.{words-back}
 use Rattle.survey.proofs.SurveyLaws.{length-applied, at-applied, applied-start, applied-more}
 use Rattle.survey.proofs.Ladder.{named-zero, access-zero}
 
@@ -94,9 +98,12 @@ module _ (n : ℕ) (xs : List Device) (long : n < 17 → n ≤ length xs) where
   named-tie : (j : ℕ) → chainNumber n ≡ 0 → driverNumber n j ≡ 0 → surveyOf n xs j .named ≡ recordOf (take n xs) j
   named-tie j z d = rw (whole z, lt-ltb 0 j (in-range n j d .0))
 
-  words-tie : (j : ℕ) → chainNumber n ≡ 0 → take n (surveyOf n xs j .words) ≡ shiftWords (take n xs)
+  words-tie : (j : ℕ) → chainNumber n ≡ 0 → take n (wordsIn (surveyOf n xs j .lanes) (counted n)) ≡ low (shiftWords (take n xs))
   words-tie j z =
-      rw (whole z) (take-at (shiftWords (take n xs)) (drop n (replicate 16 0)) n (length-map (take n xs) (λ (d : Device). d .shift) ∙ length-chain z))
+      let ws : List ℕ = shiftWords (take n xs) in
+      let l : length ws ≡ n = length-map (take n xs) (λ (d : Device). d .shift) ∙ length-chain z in
+      let back = words-back ws (omega (arith, in-chain n z .1)) in
+      rw (whole z) (take-at (tabulate n (λ i. wordBack (wordsAdded noWords ws) (n - 1 - i))) (drop n (replicate 16 0)) n (length-tabulate n _) ∙ rw l at back)
 
   -- the number of a call that names a driver, by its argument's own number
   number-tie : (j own : ℕ) → namedNumber (surveyOf n xs j) own
@@ -173,10 +180,10 @@ module _ (n : ℕ) (xs : List Device) (long : n < 17 → n ≤ length xs) where
     access-reply = rw (← access-number) (go given-number refl (eqb given-number 0) refl)
       where
         go : (k : ℕ) → given-number ≡ k → (b : Bool) → eqb k 0 ≡ b
-            → if b (roomAfter (found .words) n c sent room) room ≡ if b (answer (shiftWords (take n xs)) sent c ++ drop (bytesFor c) room) room
+            → if b (roomAfter (wordsIn (found .lanes) (counted n)) n c sent room) room ≡ if b (answer (shiftWords (take n xs)) sent c ++ drop (bytesFor c) room) room
         go k q true e =
             let z : given-number ≡ 0 = q ∙ eqb-true k 0 e in
-            rw (fitting z, words-tie j (access-zero found c (length sent) (length room) z .0))
+            rw (fitting z, words-tie j (access-zero found c (length sent) (length room) z .0), answer-low)
         go k q false e = refl
 
     abbrev change : Change
@@ -200,7 +207,7 @@ module _ (n : ℕ) (xs : List Device) (long : n < 17 → n ≤ length xs) where
 
       -- each driver's word
       word-tie : (i : ℕ) → i < n → getD (change .words) i 0 ≡ getD next i 0
-      word-tie i l = rw (e, fitting no-refusal, words-tie j in-row) (List·getD-append next (drop n (found .words)) 0 i (rw length-next l))
+      word-tie i l = rw (e, fitting no-refusal, words-tie j in-row, shifted-low) (List·getD-append next (drop n (wordsIn (found .lanes) (counted n))) 0 i (rw length-next l))
 
       length-taken : length (allTaken (take n xs) next) ≡ n
       length-taken = length-tabulate (length (take n xs)) _ ∙ length-chain in-row

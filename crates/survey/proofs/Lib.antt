@@ -1,4 +1,5 @@
 pub mod SurveyLaws
+pub mod LaneLaws
 pub mod Ladder
 pub mod CallLaws
 pub mod ChainLaws

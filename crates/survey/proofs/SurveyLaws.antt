@@ -5,11 +5,11 @@ use native.Mathlib.Numerals.{add-one}
 use native.Mathlib.Omega.{arith}
 use native.Mathlib.Decide.{decLt}
 use mathlib.Core.Bool.{Bool, true, false, _&&_}
-use mathlib.Core.List.{List, [], _∷_, _++_, map, append-assoc}
+use mathlib.Core.List.{List, [], _∷_, _++_, map}
 use mathlib.Core.Path.{_≡_, refl, sym, ap, _∙_}
 use lib.Dec.{eqb, leb, ltb}
-use lib.ListN.{length, getD, set, take, drop, replicate, length-set, List·getD-eq-default, length-map, length-take}
-use lib.Seq.{take-suc, drop-cons, set-at, getD-take, length-take-le, ext-getD, getD-set-same, getD-set-other}
+use lib.ListN.{length, getD, set, take, length-set, List·getD-eq-default, length-take}
+use lib.Seq.{take-suc, getD-take, ext-getD, getD-set-same, getD-set-other}
 use borrow.Author.Tests.{leb-true, leb-false, eqb-true, eqb-false, lt-ltb, le-ltb, ltb-true, le-leb}
 use Rattle.words.specs.Choice.{if}
 use Rattle.words.proofs.Lists.{length-tabulate, getD-tabulate}
@@ -18,6 +18,8 @@ use Rattle.device.specs.Sound.{soundOf}
 use Rattle.device.specs.declared.Device.{Device}
 use Rattle.calls.specs.Numbers.{allSound}
 use Rattle.calls.specs.Served.{shiftWords}
+use Rattle.survey.specs.Lanes.{noWords, wordAdded, wordsAdded}
+use Rattle.survey.specs.declared.Lanes.{Lanes}
 use Rattle.survey.specs.Survey.{counted, placeOf, nothingSeen, seenAlso, seenAt}
 use Rattle.survey.specs.Change.{stopOf, nextOf, appliedTo}
 use Rattle.survey.specs.declared.Change.{Change}
@@ -37,7 +39,7 @@ counted-16 n = go (ltb n 17) refl
     go false e = omega arith
 
 pub seen-start : (xs : List Device) → nothingSeen ≡ seenAt xs 0
-unfolding allSound
+unfolding allSound wordsAdded
 seen-start xs = refl
 
 -- one more record is sound too
@@ -58,7 +60,13 @@ map-more : {A B : Type 0} (f : A → B) (xs : List A) (x : A) → map f (xs ++ x
 map-more f [] x = refl
 map-more {B = B} f (y ∷ xs) x = ap (λ (t : List B). f y ∷ t) (map-more f xs x)
 
-module _ (xs : List Device) (k : ℕ) (h : k < length xs) (low : k < 16) where
+-- one more word
+words-added : (l : Lanes) (ws : List ℕ) (w : ℕ) → wordsAdded l (ws ++ w ∷ []) ≡ wordAdded (wordsAdded l ws) w
+unfolding wordsAdded
+words-added l [] w = refl
+words-added l (v ∷ ws) w = words-added (wordAdded l v) ws w
+
+module _ (xs : List Device) (k : ℕ) (h : k < length xs) where
   more : take (k + 1) xs ≡ take k xs ++ getD xs k powerUp ∷ []
   more = rw add-one (take-suc xs k powerUp h)
 
@@ -71,15 +79,13 @@ module _ (xs : List Device) (k : ℕ) (h : k < length xs) (low : k < 16) where
       go false true = refl
       go false false = refl
 
-  words-more : set (shiftWords (take k xs) ++ drop k (replicate 16 0)) k (getD xs k powerUp .shift) ≡ shiftWords (take (k + 1) xs) ++ drop (k + 1) (replicate 16 0)
-  words-more =
+  lanes-more : wordAdded (wordsAdded noWords (shiftWords (take k xs))) (getD xs k powerUp .shift) ≡ wordsAdded noWords (shiftWords (take (k + 1) xs))
+  lanes-more =
       let f : Device → ℕ = λ d. d .shift in
-      let l : length (shiftWords (take k xs)) ≡ k = length-map (take k xs) f ∙ length-take-le k xs (omega arith) in
-      let zeros : List ℕ = replicate 16 0 in
-      rw (more, map-more f (take k xs) (getD xs k powerUp), drop-cons zeros k 0 low, set-at (shiftWords (take k xs)) _ _ (getD xs k powerUp .shift) k l, add-one, append-assoc)
+      rw (more, map-more f (take k xs) (getD xs k powerUp)) (sym (words-added noWords (map f (take k xs)) (getD xs k powerUp .shift)))
 
-  pub seen-more : seenAlso (seenAt xs k) k (getD xs k powerUp) ≡ seenAt xs (k + 1)
-  seen-more = rw (unsound-more, words-more)
+  pub seen-more : seenAlso (seenAt xs k) (getD xs k powerUp) ≡ seenAt xs (k + 1)
+  seen-more = rw (unsound-more, lanes-more)
 
 -- the named driver's record, of the first m
 module _ (xs : List Device) (driver m : ℕ) where

@@ -3,13 +3,15 @@
 use Prim.Native.Nat.{ℕ, _-_}
 use mathlib.Core.List.{List, [], _∷_}
 use lib.Dec.{eqb}
-use lib.ListN.{length, getD}
+use lib.ListN.{length, getD, replicate}
 use Rattle.words.specs.Choice.{if}
 use Rattle.wire.specs.Shift.{sizeNumber, wordsAfter, roomAfter}
 use Rattle.device.specs.declared.Device.{Device}
 use Rattle.calls.specs.Calls.{Step, Question}
 use Rattle.calls.specs.Numbers.{chainNumber, driverNumber, stepNumber, questionNumber, soundNumber, firstOf}
 use Rattle.calls.specs.Served.{stepped, answerTo, refusedTo}
+use Rattle.survey.specs.Lanes.{wordsIn}
+use Rattle.survey.specs.Survey.{counted}
 use Rattle.survey.specs.declared.Survey.{Survey}
 use Rattle.survey.specs.declared.Change.{Change}
 
@@ -29,7 +31,7 @@ changeTo s k d =
       first = if (eqb k 0) (s .driver - 1) 0;
       end = if (eqb k 0) (s .driver) 0;
       shifts = 0;
-      words = s .words;
+      words = replicate 16 0;
       named = d;
     }
 
@@ -45,14 +47,14 @@ accessed s c sent room =
       first = 0;
       end = if (eqb (accessNumber s c (length sent) (length room)) 0) (s .n) 0;
       shifts = 1;
-      words = if (eqb (accessNumber s c (length sent) (length room)) 0) (wordsAfter (s .words) (s .n) c sent room) (s .words);
+      words = if (eqb (accessNumber s c (length sent) (length room)) 0) (wordsAfter (wordsIn (s .lanes) (counted (s .n))) (s .n) c sent room) (replicate 16 0);
       named = s .named;
     }
 
 -- an access: the bytes lent for its answer
 abbrev pub accessRoom : Survey → ℕ → List ℕ → List ℕ → List ℕ
 accessRoom s c sent room =
-    if (eqb (accessNumber s c (length sent) (length room)) 0) (roomAfter (s .words) (s .n) c sent room) room
+    if (eqb (accessNumber s c (length sent) (length room)) 0) (roomAfter (wordsIn (s .lanes) (counted (s .n))) (s .n) c sent room) room
 
 -- a question: its number
 abbrev pub askedNumber : Survey → Question → ℕ

@@ -1,3 +1,4 @@
+pub mod Lanes
 pub mod Survey
 pub mod Change
 pub mod Calls

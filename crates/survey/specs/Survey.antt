@@ -2,15 +2,16 @@
 -- Assumes nothing.
 use Prim.Native.Nat.{ℕ, _-_}
 use mathlib.Core.Bool.{_&&_}
-use mathlib.Core.List.{List, _++_}
+use mathlib.Core.List.{List}
 use lib.Dec.{leb, ltb}
-use lib.ListN.{getD, set, take, drop, replicate}
+use lib.ListN.{getD, take}
 use Rattle.words.specs.Choice.{if}
 use Rattle.device.specs.PowerUp.{powerUp}
 use Rattle.device.specs.Sound.{soundOf}
 use Rattle.device.specs.declared.Device.{Device}
 use Rattle.calls.specs.Numbers.{allSound}
 use Rattle.calls.specs.Served.{shiftWords}
+use Rattle.survey.specs.Lanes.{noWords, wordAdded, wordsAdded}
 use Rattle.survey.specs.declared.Seen.{Seen}
 use Rattle.survey.specs.declared.Survey.{Survey}
 
@@ -24,23 +25,19 @@ placeOf driver m = if (ltb 0 driver && leb driver m) (driver - 1) m
 
 -- nothing seen yet
 abbrev pub nothingSeen : Seen
-nothingSeen = record { unsound = 0; words = replicate 16 0 }
+nothingSeen = record { lanes = noWords; unsound = 0 }
 
--- the record at index i seen too
-abbrev pub seenAlso : Seen → ℕ → Device → Seen
-seenAlso s i d = record { unsound = if (soundOf d) (s .unsound) 1; words = set (s .words) i (d .shift) }
+-- one record more
+abbrev pub seenAlso : Seen → Device → Seen
+seenAlso s d = record { lanes = wordAdded (s .lanes) (d .shift); unsound = if (soundOf d) (s .unsound) 1 }
 
 -- what the first k records tell
 abbrev pub seenAt : List Device → ℕ → Seen
-seenAt xs k =
-    record {
-      unsound = if (allSound (take k xs)) 0 1;
-      words = shiftWords (take k xs) ++ drop k (replicate 16 0);
-    }
+seenAt xs k = record { lanes = wordsAdded noWords (shiftWords (take k xs)); unsound = if (allSound (take k xs)) 0 1 }
 
 -- a survey of n records, with the named driver's
 abbrev pub surveyBy : ℕ → ℕ → Seen → Device → Survey
-surveyBy n driver s d = record { n = n; driver = driver; unsound = s .unsound; words = s .words; named = d }
+surveyBy n driver s d = record { lanes = s .lanes; named = d; n = n; driver = driver; unsound = s .unsound }
 
 -- what the first n records of xs tell; a driver that isn't among them has the power-up record
 abbrev pub surveyOf : ℕ → List Device → ℕ → Survey

@@ -2,13 +2,14 @@
 ghost use mathlib.Core.Path.{_≡_};
 ghost use Prim.Native.Nat.{_-_};
 ghost use lib.Dec.{eqb};
-ghost use lib.ListN.{getD, set};
+ghost use lib.ListN.{getD};
 ghost use Rattle.words.specs.Choice.{if};
 ghost use Rattle.device.specs.PowerUp.{powerUp};
 ghost use Rattle.calls.specs.Calls.{scan as scanStep, levels as levelsStep, clocks as clocksStep, plane as planeQuestion, segments as segmentsQuestion, brightness as brightnessQuestion, shown as shownQuestion, interrupt as interruptQuestion};
 ghost use Rattle.calls.specs.Served.{planeIndex};
 ghost use Rattle.calls.specs.Numbers.{chainNumber, driverNumber, stepNumber, soundNumber};
 ghost use Rattle.survey.specs.Survey.{counted, placeOf, nothingSeen, seenAlso, surveyBy};
+ghost use Rattle.survey.specs.Lanes.{noWords, wordAdded, laneAt, wordBack, wordsIn};
 ghost use Rattle.survey.specs.Change.{stopOf, nextOf};
 ghost use Rattle.survey.specs.Calls.{namedNumber, accessNumber, changeTo, given, accessed, accessRoom, askedNumber, asked, only};
 use brightness::BrightnessAnswer;
@@ -16,18 +17,26 @@ use device::Device;
 use display::SegmentAnswer;
 use words::Plane;
 
+// Up to sixteen words in four lanes of four, the last one in the lowest bits of lane a.
+pub struct Lanes {
+    pub a: u64,
+    pub b: u64,
+    pub c: u64,
+    pub d: u64,
+}
+
 // What a pass over a chain's records finds of them all.
 pub struct Seen {
-    // The shift words, driver 1's first.
-    pub words: [u16; 16],
+    // The shift words, in the order of the drivers.
+    pub lanes: Lanes,
     // 1 where some record isn't sound.
     pub unsound: u8,
 }
 
 // What a call needs to know of a chain.
 pub struct Survey {
-    // The shift words, driver 1's first.
-    pub words: [u16; 16],
+    // The shift words, in the order of the drivers.
+    pub lanes: Lanes,
     // The named driver's record.
     pub named: Device,
     // The number of records.
@@ -63,6 +72,9 @@ pub struct InterruptAnswer {
     pub raised: u8,
 }
 
+// 48 bits: the three lower words of a lane.
+const HIGH: u64 = 0x1000000000000;
+
 // How many records of n are looked at.
 pub fn counted(n: usize) -> usize
     ensures { λ r. ⌜ r ≡ counted n ⌝ }
@@ -82,14 +94,69 @@ pub fn place(driver: usize, m: usize) -> usize
     m
 }
 
-// A word of sixteen replaced; past the end nothing changes.
-fn put_word(mut words: [u16; 16], i: usize, w: u16) -> [u16; 16]
-    ensures { λ r. ⌜ r ≡ set words i w ⌝ }
-{
-    if i < 16 {
-        words[i] = w;
+impl Lanes {
+    // No word yet.
+    pub fn new() -> Lanes
+        ensures { λ r. ⌜ r ≡ noWords ⌝ }
+    {
+        Lanes {
+            a: 0,
+            b: 0,
+            c: 0,
+            d: 0,
+        }
     }
-    words
+
+    // One word more: each lane moves up by a word.
+    pub fn with(self, w: u16) -> Lanes
+        ensures { λ r. ⌜ r ≡ wordAdded self w ⌝ }
+    {
+        Lanes {
+            a: self.a % HIGH * 65536 + (w as u64) % 65536,
+            b: self.b % HIGH * 65536 + self.a / HIGH % 65536,
+            c: self.c % HIGH * 65536 + self.b / HIGH % 65536,
+            d: self.d % HIGH * 65536 + self.c / HIGH % 65536,
+        }
+    }
+
+    // Word k, counted back from the last one.
+    fn back(self, k: usize) -> u16
+        ensures { λ r. ⌜ r ≡ wordBack self k ⌝ }
+    {
+        let lane = self.lane(k / 4);
+        ((lane >> (16 * (k % 4))) % 65536) as u16
+    }
+
+    // A lane by its number; there are four.
+    fn lane(self, j: usize) -> u64
+        ensures { λ r. ⌜ r ≡ laneAt self j ⌝ }
+    {
+        if j == 0 {
+            self.a
+        } else if j == 1 {
+            self.b
+        } else if j == 2 {
+            self.c
+        } else if j == 3 {
+            self.d
+        } else {
+            0
+        }
+    }
+
+    // The last n words, at most sixteen, the first of them first.
+    pub fn words(self, n: usize) -> [u16; 16]
+        ensures { λ r. ⌜ r ≡ wordsIn self (counted n) ⌝ }
+    {
+        let m = counted(n);
+        let mut words = [0; 16];
+        let mut i = 0;
+        while i < m {
+            words[i] = self.back(m - 1 - i);
+            i += 1;
+        }
+        words
+    }
 }
 
 // A word of sixteen; past the end 0.
@@ -112,18 +179,18 @@ impl Seen {
         ensures { λ r. ⌜ r ≡ nothingSeen ⌝ }
     {
         Seen {
-            words: [0; 16],
+            lanes: Lanes::new(),
             unsound: 0,
         }
     }
 
-    // The record at index i seen too.
-    pub fn with(self, i: usize, d: Device) -> Seen
-        ensures { λ r. ⌜ r ≡ seenAlso self i d ⌝ }
+    // One record more.
+    pub fn with(self, d: Device) -> Seen
+        ensures { λ r. ⌜ r ≡ seenAlso self d ⌝ }
     {
-        let words = self.words;
+        let lanes = self.lanes;
         Seen {
-            words: put_word(words, i, d.shift),
+            lanes: lanes.with(d.shift),
             unsound: unsound_too(self.unsound, d.sound()),
         }
     }
@@ -134,9 +201,9 @@ impl Survey {
     pub fn new(n: usize, driver: usize, seen: Seen, named: Device) -> Survey
         ensures { λ r. ⌜ r ≡ surveyBy n driver seen named ⌝ }
     {
-        let words = seen.words;
+        let lanes = seen.lanes;
         Survey {
-            words: words,
+            lanes: lanes,
             named: named,
             n: n,
             driver: driver,
@@ -219,10 +286,9 @@ fn index_of(driver: usize) -> usize
 fn change_to(s: Survey, number: u8, d: Device) -> Change
     ensures { λ r. ⌜ r ≡ changeTo s number d ⌝ }
 {
-    let words = s.words;
     if number != 0 {
         return Change {
-            words: words,
+            words: [0; 16],
             named: d,
             first: 0,
             end: 0,
@@ -231,7 +297,7 @@ fn change_to(s: Survey, number: u8, d: Device) -> Change
         };
     }
     Change {
-        words: words,
+        words: [0; 16],
         named: d,
         first: index_of(s.driver),
         end: s.driver,
@@ -283,12 +349,11 @@ impl Survey {
     pub fn access(self, clocks: usize, sent: &[u8], room: &mut [u8]) -> Change
         ensures { λ r. ⌜ (r ≡ accessed self clocks (now (sent .entry)) (now (room .entry))) × (now (room .exit) ≡ accessRoom self clocks (now (sent .entry)) (now (room .entry))) ⌝ }
     {
-        let words = self.words;
         let named = self.named;
         let number = access_number(self, clocks, sent.len(), room.len());
         if number != 0 {
             return Change {
-                words: words,
+                words: [0; 16],
                 named: named,
                 first: 0,
                 end: 0,
@@ -296,6 +361,8 @@ impl Survey {
                 number: number,
             };
         }
+        let lanes = self.lanes;
+        let words = lanes.words(self.n);
         let next = wire::shift(words, self.n, clocks, sent, room);
         Change {
             words: next,

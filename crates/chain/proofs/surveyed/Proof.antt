@@ -107,16 +107,16 @@ module _ {M : Type 1} (𝓤 : URA M) (H : Heap 𝓤) (A : Atoms 𝓤) (W : Given
       let l : i < m = ltb→lt i m more in
       let l′ : i < n = omega (arith, l, counted-le n) in
       let fits : i + 1 < 2 ^ 64 = omega (arith, l, counted-16 n) in
-      let step : seenAlso (at i) i e ≡ at (i + 1) = seen-more ys i l′ (omega (arith, l, counted-16 n)) in
+      let step : seenAlso (at i) e ≡ at (i + 1) = seen-more ys i l′ in
       assigns ! (bin ! (load ! (from ! (stop !)) (look ! 1 refl)) (lit ! tt) (scaled-fits i n 80 l′ (room .1))) (from ! (stop !)) (init ! 4 refl (tt, scaled-fits i n 80 l′ (room .1))) $
       assigns ! (bin ! (load ! (from ! (fld ! refl (stop !))) (look-in ! 8 (sub ! 0 refl (whole !)))) (load ! (from ! (stop !)) (look ! 4 refl)) tt) (from ! (stop !)) (init ! 5 refl (tt, tt)) $
       rewrite ! 5 (λ (a : ℕ). ‵ (fat fullShare tyPtr m₀ 0 (vptr b a))) (sym (place-is 80 o i)) refl $
       elem-out ! R (Is R) (shows 𝓤 H A R) (λ d. device .val d ∷ []) (device .tells) q′ ys i powerUp b o l′ (λ is-e.
       assigns ! (of-opd ! (load ! (from ! (hop ! (look ! 7 refl) (stop !))) (look-raw ! 0 refl))) (from ! (stop !)) (init ! 8 refl (device .typed 𝓤 H A W e is-e)) $
       elem-back ! R q′ ys i powerUp (device .val e ∷ []) b o l′ $
-      calls-value ! (fmOf 𝓤 H (W .laws) 𝓣) (seen ∷ size ∷ device ∷ []) seen (λ _. emp 𝓤) (λ a. seenAlso (a .0) (a .1 .0) (a .1 .1 .0)) known-also
-      (at i, (i, (e, tt))) (t .1 .1, ((refl, omega (arith, fits)), (is-e, tt))) (id⊢ 𝓤 _)
-      (and-then ! (load ! (from ! (stop !)) (look ! 3 refl)) (and-then ! (load ! (from ! (stop !)) (look ! 2 refl)) (and-then ! (load ! (from ! (stop !)) (look ! 7 refl)) (no-more !)))) (λ is-next wt-next.
+      calls-value ! (fmOf 𝓤 H (W .laws) 𝓣) (seen ∷ device ∷ []) seen (λ _. emp 𝓤) (λ a. seenAlso (a .0) (a .1 .0)) known-also
+      (at i, (e, tt)) (t .1 .1, (is-e, tt)) (id⊢ 𝓤 _)
+      (and-then ! (load ! (from ! (stop !)) (look ! 3 refl)) (and-then ! (load ! (from ! (stop !)) (look ! 7 refl)) (no-more !))) (λ is-next wt-next.
       land ! (from ! (stop !)) (store ! 2 refl wt-next) $ rewrite ! 2 (λ (s : Seen). ‵ (fat fullShare (seen .ty) l₅ 0 (seen .val s))) step refl $
       assigns-last ! (bin ! (load ! (from ! (stop !)) (look ! 1 refl)) (lit ! tt) (record { fits = fits })) (from ! (stop !)) (store ! 1 refl (tt, record { fits = fits })) $
       forget ! 3 refl $ forget ! 4 refl $ forget ! 5 refl $ forget ! 6 refl $

@@ -47,7 +47,7 @@ loop-again c =
     let l = c .before .before .before .loop in
     let a = c .before .before .before .before .before .before .args in
     let h : l .i < length (a .t1) = search needs in
-    (omega arith, omega arith, rw (c .with .ensures, l .inv .2, element (a .t1) (l .i) h) (seen-more (a .t1) (l .i) h (omega arith)))
+    (omega arith, omega arith, rw (c .with .ensures, l .inv .2, element (a .t1) (l .i) h) (seen-more (a .t1) (l .i) h))
 
 place-requires : tie.Need-place-requires Inv-loop μ-loop
 place-requires c κs = search needs

@@ -5,7 +5,6 @@
 #include <time.h>
 #include "ratchetelm.h"
 
-static const max6954_device POWER_UP = MAX6954_POWER_UP;
 static uint8_t sent[512], answer[512], plane[16];
 static uint16_t font[128];
 static max6954_device chain[16];
@@ -72,7 +71,7 @@ static double now(void)
 static void fresh(void)
 {
     for (int i = 0; i < 16; i++)
-        chain[i] = POWER_UP;
+        chain[i] = max6954_power_up();
 }
 
 static void accesses(void)

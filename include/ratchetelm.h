@@ -1,7 +1,8 @@
 /* The bench double of a chain of MAX6954, for C and C++. Link target/staticlib/libchain.a (rt staticlib chain).
 
    A chain is an array of records, nearest the controller first, lent to each call as a pointer and a length. Drivers are counted from 1.
-   No call allocates, keeps a pointer or writes where it was not lent; any bytes are some record.
+   No call allocates, keeps a pointer or writes where it was not lent; any bytes are some record. What is lent to one call must not overlap.
+   A length of 0 may come with NULL.
 
    Each call gives a number, the lowest of these that applies; apart from 0 no record and no lent byte changes:
      0 served
@@ -75,15 +76,6 @@ typedef struct {
     uint8_t fitted;     /* bit d: cathode d has a pair of 7-segment digits where its digit type is 0 */
 } max6954_device;
 
-/* A driver at power-up. */
-#define MAX6954_POWER_UP                                                                                               \
-    { { { 255, 0, 7, 0, 31, 0, 0 }, { 0, 0, 0, 0 }, { 0, 0, 0, 0, 0, 0, 0, 0 },                                        \
-        { { 0, 0, 0, 0 }, { 0, 0, 0, 0 }, { 0, 0, 0, 0 }, { 0, 0, 0, 0 }, 0 },                                         \
-        { { 32, 32, 32, 32, 32, 32, 32, 32, 0, 0, 0, 0, 0, 0, 0, 0 },                                                  \
-          { 32, 32, 32, 32, 32, 32, 32, 32, 0, 0, 0, 0, 0, 0, 0, 0 } },                                                \
-        0, 0 },                                                                                                        \
-      0, 255 }
-
 /* A pin of a segment answer. */
 enum {
     MAX6954_NOT_DRIVEN = 0,
@@ -112,6 +104,9 @@ typedef struct {
     uint8_t number;
     uint8_t raised;    /* 1 when raised; 0 where refused */
 } max6954_interrupt_answer;
+
+/* A driver at power-up. */
+max6954_device max6954_power_up(void);
 
 /* Clocks through the chain: bits are packed first bit highest. The answer's bytes are written, its spare bits 0; bytes after them stay. Then
    every driver takes its word, also at 0 clocks. */

@@ -5,7 +5,6 @@
 
 _Static_assert(sizeof(max6954_device) == 80, "the record has 80 bytes");
 
-static const max6954_device POWER_UP = MAX6954_POWER_UP;
 static max6954_device chain[17];
 static uint8_t answer[600];
 static int passed, failed;
@@ -22,7 +21,7 @@ static void holds(const char *what, int yes)
 static void fresh(void)
 {
     for (int i = 0; i < 17; i++)
-        chain[i] = POWER_UP;
+        chain[i] = max6954_power_up();
     memset(answer, 0xEE, sizeof answer);
 }
 

@@ -1,6 +1,7 @@
 // The calls on a chain of MAX6954: a lent row of records, nearest the controller first. Drivers are counted from 1.
 ghost use mathlib.Core.Path.{_≡_};
 ghost use lib.ListN.{length};
+ghost use Rattle.device.specs.PowerUp.{powerUp};
 ghost use Rattle.calls.specs.Calls.{access as accessCall, give, ask, scan, levels as pinLevels, clocks as masterClocks, plane, segments, brightness, shown, interrupt};
 ghost use Rattle.calls.specs.Served.{number, after, reply};
 ghost use Rattle.survey.specs.Survey.{surveyOf};
@@ -45,6 +46,14 @@ fn changed(chain: &mut [Device], change: Change) -> u8
         i += 1;
     }
     change.number
+}
+
+// A driver at power-up.
+#[no_mangle]
+pub extern "C" fn max6954_power_up() -> Device
+    ensures { λ r. ⌜ r ≡ powerUp ⌝ }
+{
+    Device::new()
 }
 
 // Clocks through the chain: the sent bits go in, the answer bits come out, and every driver takes its word.

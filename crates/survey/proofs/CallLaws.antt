@@ -23,13 +23,13 @@ use Rattle.device.specs.declared.Device.{Device}
 use Rattle.calls.specs.Calls.{Step, Question, access, give, ask}
 use Rattle.calls.specs.Numbers.{chainNumber, driverNumber, stepNumber, questionNumber, soundNumber, allSound, firstOf}
 use Rattle.calls.specs.Served.{recordOf, withRecord, shiftWords, allTaken, stepped, answerTo, refusedTo, numberAt, afterAt, replyAt}
-use Rattle.survey.specs.Lanes.{noWords, wordsAdded, wordBack, wordsIn}
+use Rattle.lanes.specs.Lanes.{noWords, wordsAdded, wordBack, wordsIn}
+use Rattle.lanes.proofs.LaneLaws.{words-back}
 use Rattle.survey.specs.Survey.{counted, surveyOf}
 use Rattle.survey.specs.Change.{stopOf, nextOf, appliedTo, applied}
 use Rattle.survey.specs.Calls.{namedNumber, accessNumber, changeTo, given, accessed, accessRoom, askedNumber, asked}
 use Rattle.survey.specs.declared.Survey.{Survey}
 use Rattle.survey.specs.declared.Change.{Change}
-use Rattle.survey.proofs.LaneLaws.{words-back}
 use Rattle.survey.proofs.SurveyLaws.{length-applied, at-applied, applied-start, applied-more}
 use Rattle.survey.proofs.Ladder.{named-zero, access-zero}
 

@@ -18,8 +18,8 @@ use Rattle.device.specs.Sound.{soundOf}
 use Rattle.device.specs.declared.Device.{Device}
 use Rattle.calls.specs.Numbers.{allSound}
 use Rattle.calls.specs.Served.{shiftWords}
-use Rattle.survey.specs.Lanes.{noWords, wordAdded, wordsAdded}
-use Rattle.survey.specs.declared.Lanes.{Lanes}
+use Rattle.lanes.specs.Lanes.{noWords, wordAdded, wordsAdded}
+use Rattle.lanes.specs.declared.Lanes.{Lanes}
 use Rattle.survey.specs.Survey.{counted, placeOf, nothingSeen, seenAlso, seenAt}
 use Rattle.survey.specs.Change.{stopOf, nextOf, appliedTo}
 use Rattle.survey.specs.declared.Change.{Change}

@@ -10,7 +10,7 @@ use Rattle.device.specs.declared.Device.{Device}
 use Rattle.calls.specs.Calls.{Step, Question}
 use Rattle.calls.specs.Numbers.{chainNumber, driverNumber, stepNumber, questionNumber, soundNumber, firstOf}
 use Rattle.calls.specs.Served.{stepped, answerTo, refusedTo}
-use Rattle.survey.specs.Lanes.{wordsIn}
+use Rattle.lanes.specs.Lanes.{wordsIn}
 use Rattle.survey.specs.Survey.{counted}
 use Rattle.survey.specs.declared.Survey.{Survey}
 use Rattle.survey.specs.declared.Change.{Change}

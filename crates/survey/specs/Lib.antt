@@ -1,4 +1,3 @@
-pub mod Lanes
 pub mod Survey
 pub mod Change
 pub mod Calls

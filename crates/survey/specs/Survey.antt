@@ -11,7 +11,7 @@ use Rattle.device.specs.Sound.{soundOf}
 use Rattle.device.specs.declared.Device.{Device}
 use Rattle.calls.specs.Numbers.{allSound}
 use Rattle.calls.specs.Served.{shiftWords}
-use Rattle.survey.specs.Lanes.{noWords, wordAdded, wordsAdded}
+use Rattle.lanes.specs.Lanes.{noWords, wordAdded, wordsAdded}
 use Rattle.survey.specs.declared.Seen.{Seen}
 use Rattle.survey.specs.declared.Survey.{Survey}
 

@@ -9,21 +9,13 @@ ghost use Rattle.calls.specs.Calls.{scan as scanStep, levels as levelsStep, clo
 ghost use Rattle.calls.specs.Served.{planeIndex};
 ghost use Rattle.calls.specs.Numbers.{chainNumber, driverNumber, stepNumber, soundNumber};
 ghost use Rattle.survey.specs.Survey.{counted, placeOf, nothingSeen, seenAlso, surveyBy};
-ghost use Rattle.survey.specs.Lanes.{noWords, wordAdded, laneAt, wordBack, wordsIn};
 ghost use Rattle.survey.specs.Change.{stopOf, nextOf};
 ghost use Rattle.survey.specs.Calls.{namedNumber, accessNumber, changeTo, given, accessed, accessRoom, askedNumber, asked, only};
 use brightness::BrightnessAnswer;
 use device::Device;
 use display::SegmentAnswer;
+use lanes::Lanes;
 use words::Plane;
-
-// Up to sixteen words in four lanes of four, the last one in the lowest bits of lane a.
-pub struct Lanes {
-    pub a: u64,
-    pub b: u64,
-    pub c: u64,
-    pub d: u64,
-}
 
 // What a pass over a chain's records finds of them all.
 pub struct Seen {
@@ -72,9 +64,6 @@ pub struct InterruptAnswer {
     pub raised: u8,
 }
 
-// 48 bits: the three lower words of a lane.
-const HIGH: u64 = 0x1000000000000;
-
 // How many records of n are looked at.
 pub fn counted(n: usize) -> usize
     ensures { λ r. ⌜ r ≡ counted n ⌝ }
@@ -92,71 +81,6 @@ pub fn place(driver: usize, m: usize) -> usize
         }
     }
     m
-}
-
-impl Lanes {
-    // No word yet.
-    pub fn new() -> Lanes
-        ensures { λ r. ⌜ r ≡ noWords ⌝ }
-    {
-        Lanes {
-            a: 0,
-            b: 0,
-            c: 0,
-            d: 0,
-        }
-    }
-
-    // One word more: each lane moves up by a word.
-    pub fn with(self, w: u16) -> Lanes
-        ensures { λ r. ⌜ r ≡ wordAdded self w ⌝ }
-    {
-        Lanes {
-            a: self.a % HIGH * 65536 + (w as u64) % 65536,
-            b: self.b % HIGH * 65536 + self.a / HIGH % 65536,
-            c: self.c % HIGH * 65536 + self.b / HIGH % 65536,
-            d: self.d % HIGH * 65536 + self.c / HIGH % 65536,
-        }
-    }
-
-    // Word k, counted back from the last one.
-    fn back(self, k: usize) -> u16
-        ensures { λ r. ⌜ r ≡ wordBack self k ⌝ }
-    {
-        let lane = self.lane(k / 4);
-        ((lane >> (16 * (k % 4))) % 65536) as u16
-    }
-
-    // A lane by its number; there are four.
-    fn lane(self, j: usize) -> u64
-        ensures { λ r. ⌜ r ≡ laneAt self j ⌝ }
-    {
-        if j == 0 {
-            self.a
-        } else if j == 1 {
-            self.b
-        } else if j == 2 {
-            self.c
-        } else if j == 3 {
-            self.d
-        } else {
-            0
-        }
-    }
-
-    // The last n words, at most sixteen, the first of them first.
-    pub fn words(self, n: usize) -> [u16; 16]
-        ensures { λ r. ⌜ r ≡ wordsIn self (counted n) ⌝ }
-    {
-        let m = counted(n);
-        let mut words = [0; 16];
-        let mut i = 0;
-        while i < m {
-            words[i] = self.back(m - 1 - i);
-            i += 1;
-        }
-        words
-    }
 }
 
 // A word of sixteen; past the end 0.
@@ -193,30 +117,6 @@ impl Seen {
             lanes: lanes.with(d.shift),
             unsound: unsound_too(self.unsound, d.sound()),
         }
-    }
-}
-
-impl Survey {
-    // Of n records, with the named driver's.
-    pub fn new(n: usize, driver: usize, seen: Seen, named: Device) -> Survey
-        ensures { λ r. ⌜ r ≡ surveyBy n driver seen named ⌝ }
-    {
-        let lanes = seen.lanes;
-        Survey {
-            lanes: lanes,
-            named: named,
-            n: n,
-            driver: driver,
-            unsound: seen.unsound,
-        }
-    }
-
-    // The same where no driver of the chain is named.
-    pub fn unnamed(n: usize, driver: usize, seen: Seen) -> Survey
-        ensures { λ r. ⌜ r ≡ surveyBy n driver seen powerUp ⌝ }
-    {
-        let named = Device::new();
-        Survey::new(n, driver, seen, named)
     }
 }
 
@@ -316,8 +216,29 @@ fn plane_index(plane: Plane) -> u8
     }
 }
 
-// The calls by value.
 impl Survey {
+    // Of n records, with the named driver's.
+    pub fn new(n: usize, driver: usize, seen: Seen, named: Device) -> Survey
+        ensures { λ r. ⌜ r ≡ surveyBy n driver seen named ⌝ }
+    {
+        let lanes = seen.lanes;
+        Survey {
+            lanes: lanes,
+            named: named,
+            n: n,
+            driver: driver,
+            unsound: seen.unsound,
+        }
+    }
+
+    // The same where no driver of the chain is named.
+    pub fn unnamed(n: usize, driver: usize, seen: Seen) -> Survey
+        ensures { λ r. ⌜ r ≡ surveyBy n driver seen powerUp ⌝ }
+    {
+        let named = Device::new();
+        Survey::new(n, driver, seen, named)
+    }
+
     // A key scan of the named driver: the closed keys of groups A to D.
     pub fn scan(self, a: u8, b: u8, c: u8, d: u8) -> Change
         ensures { λ r. ⌜ r ≡ given self (scanStep a b c d) ⌝ }

@@ -1,7 +1,7 @@
--- `survey::Lanes::back` meets its contract. Assumes nothing.
+-- `lanes::Lanes::back` meets its contract. Assumes nothing.
 use borrow.Author.Needs.{needs}
-use Rattle.survey.proofs.Lanes.back.Statement.{statement}
-use Rattle.survey.proofs.Lanes.back.Tie as tie
+use Rattle.lanes.proofs.Lanes.back.Statement.{statement}
+use Rattle.lanes.proofs.Lanes.back.Tie as tie
 
 lane-requires : tie.Need-lane-requires
 lane-requires c κs = search needs

@@ -4,13 +4,24 @@ use Prim.Native.Nat.{ℕ, zero, suc, _+_, _-_, _≤_, _<_, _%_}
 use native.Mathlib.Nat.{le-of-suc-le-suc, not-suc-le-zero, zero-add}
 use native.Mathlib.Omega.{arith}
 use mathlib.Core.List.{List, [], _∷_, map}
-use mathlib.Core.Path.{_≡_, sym, ap, _∙_}
+use mathlib.Core.Path.{_≡_, refl, sym, ap, _∙_}
+use mathlib.Core.Bool.{Bool, true, false}
+use lib.Dec.{ltb}
 use lib.ListN.{length, getD, length-map, List·getD-map}
 use lib.Seq.{ext-getD}
+use borrow.Author.Tests.{ltb-true}
+use Rattle.words.specs.Choice.{if}
 use Rattle.words.specs.Lists.{tabulate}
 use Rattle.words.proofs.Lists.{length-tabulate, getD-tabulate}
-use Rattle.survey.specs.Lanes.{noWords, wordAdded, wordsAdded, wordBack}
-use Rattle.survey.specs.declared.Lanes.{Lanes}
+use Rattle.lanes.specs.Lanes.{room, noWords, wordAdded, wordsAdded, wordBack}
+use Rattle.lanes.specs.declared.Lanes.{Lanes}
+
+pub room-16 : (n : ℕ) → room n ≤ 16
+room-16 n = go (ltb n 17) refl
+  where
+    go : (b : Bool) → ltb n 17 ≡ b → if b n 0 ≤ 16
+    go true e = omega (arith, ltb-true n 17 e)
+    go false e = omega arith
 
 -- the word added is the last one
 last-word : (l : Lanes) (w : ℕ) → wordBack (wordAdded l w) 0 ≡ w % 65536

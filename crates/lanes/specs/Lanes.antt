@@ -2,11 +2,11 @@
 -- Assumes nothing.
 use Prim.Native.Nat.{ℕ, _+_, _-_, _*_, _/_, _%_, _^_}
 use mathlib.Core.List.{List, [], _∷_, _++_}
-use lib.Dec.{eqb}
+use lib.Dec.{eqb, ltb}
 use lib.ListN.{drop, replicate}
 use Rattle.words.specs.Choice.{if}
 use Rattle.words.specs.Lists.{tabulate}
-use Rattle.survey.specs.declared.Lanes.{Lanes}
+use Rattle.lanes.specs.declared.Lanes.{Lanes}
 
 -- no word yet
 abbrev pub noWords : Lanes
@@ -34,6 +34,10 @@ laneAt l j = if (eqb j 0) (l .a) (if (eqb j 1) (l .b) (if (eqb j 2) (l .c) (if (
 -- word k, counted back from the last one
 abbrev pub wordBack : Lanes → ℕ → ℕ
 wordBack l k = laneAt l (k / 4) / 2 ^ (16 * (k % 4)) % 65536
+
+-- how many of n words there is room for: none of more than sixteen
+abbrev pub room : ℕ → ℕ
+room n = if (ltb n 17) n 0
 
 -- the last n words, the first of them first, in a list of sixteen
 abbrev pub wordsIn : Lanes → ℕ → List ℕ

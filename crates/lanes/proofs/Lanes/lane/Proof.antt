@@ -1,7 +1,7 @@
--- `survey::Lanes::lane` meets its contract. Assumes nothing.
+-- `lanes::Lanes::lane` meets its contract. Assumes nothing.
 use Rattle.words.proofs.Tests.{tests}
-use Rattle.survey.proofs.Lanes.lane.Statement.{statement}
-use Rattle.survey.proofs.Lanes.lane.Tie as tie
+use Rattle.lanes.proofs.Lanes.lane.Statement.{statement}
+use Rattle.lanes.proofs.Lanes.lane.Tie as tie
 
 returns : tie.Need-returns
 returns c = search tests

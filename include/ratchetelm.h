@@ -1,8 +1,11 @@
 /* The bench double of a chain of MAX6954, for C and C++. Link target/staticlib/libchain.a (rt staticlib chain).
 
    A chain is an array of records, nearest the controller first, lent to each call as a pointer and a length. Drivers are counted from 1.
-   No call allocates, keeps a pointer or writes where it was not lent; any bytes are some record. What is lent to one call must not overlap.
-   A length of 0 may come with NULL.
+   No call allocates, keeps a pointer or writes where it was not lent; any bytes are some record.
+
+   The caller sees to it that a pointer is valid and aligned for the length that comes with it (NULL will do for 0), that what a call writes (the
+   chain of an access, a scan, pin levels or clocks; the answer bytes) overlaps nothing else that is lent to it, so answer isn't sent, and that
+   nobody else writes the records meanwhile.
 
    Each call gives a number, the lowest of these that applies; apart from 0 no record and no lent byte changes:
      0 served
@@ -66,7 +69,7 @@ typedef struct {
     uint8_t intensities[8];    /* 0x10 to 0x17 */
     max6954_keys keys;
     max6954_planes planes;
-    uint32_t pins;     /* five pin levels, bit k for P0 to P4 */
+    uint32_t pins;     /* five pin levels, bit k is Pk */
     uint32_t blink;    /* master clocks modulo 4,000,000 */
 } max6954_registers;
 
@@ -134,7 +137,7 @@ max6954_shown_answer max6954_shown(const max6954_device *chain, size_t n, size_t
 /* Whether a driver's interrupt is raised. */
 max6954_interrupt_answer max6954_interrupt(const max6954_device *chain, size_t n, size_t driver);
 
-/* The number of the next call. */
+/* The number of a call of max6954_plane. */
 uint8_t max6954_plane_number(const max6954_device *chain, size_t n, size_t driver, const uint8_t *p0, size_t p0_length, const uint8_t *p1,
                              size_t p1_length, size_t first, size_t last);
 

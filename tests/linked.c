@@ -1,9 +1,14 @@
 /* The exported calls from C: bench examples on a chain, and each number with nothing changed. */
+#include <stddef.h>
 #include <stdio.h>
 #include <string.h>
 #include "ratchetelm.h"
 
 _Static_assert(sizeof(max6954_device) == 80, "the record has 80 bytes");
+_Static_assert(offsetof(max6954_registers, config) == 7 && offsetof(max6954_registers, intensities) == 11, "configuration, intensities");
+_Static_assert(offsetof(max6954_registers, keys) == 19 && offsetof(max6954_registers, planes) == 36, "keys, planes");
+_Static_assert(offsetof(max6954_registers, pins) == 68 && offsetof(max6954_registers, blink) == 72, "pin levels, blink count");
+_Static_assert(offsetof(max6954_device, shift) == 76 && offsetof(max6954_device, fitted) == 78, "shift word, fitted byte");
 
 static max6954_device chain[17];
 static uint8_t answer[600];
@@ -25,15 +30,58 @@ static void fresh(void)
     memset(answer, 0xEE, sizeof answer);
 }
 
-/* An access with just the bytes that it needs. */
+/* An access with just the bytes to send that it needs, and room for more. */
 static int sent(size_t n, size_t clocks, const char *bytes)
 {
-    return max6954_access(chain, n, clocks, (const uint8_t *)bytes, (clocks + 7) / 8, answer, (clocks + 7) / 8);
+    return max6954_access(chain, n, clocks, (const uint8_t *)bytes, (clocks + 7) / 8, answer, sizeof answer);
 }
 
+/* The answer has these bytes, and the bytes after it stay. */
 static int answered(const char *bytes, size_t count)
 {
-    return memcmp(answer, bytes, count) == 0 && answer[count] == 0xEE;
+    int kept = memcmp(answer, bytes, count) == 0;
+    for (size_t i = count; i < sizeof answer; i++)
+        kept = kept && answer[i] == 0xEE;
+    return kept;
+}
+
+/* A word to driver 1 of 1. */
+static void word(unsigned w)
+{
+    const char bytes[2] = { (char)(w >> 8), (char)w };
+    sent(1, 16, bytes);
+}
+
+static void records_by_name(void)
+{
+    fresh();
+    const max6954_registers *r = &chain[0].registers;
+    int up = r->controls.decode == 255 && r->controls.global == 0 && r->controls.limit == 7 && r->controls.gpio == 0;
+    up = up && r->controls.ports == 31 && r->controls.test == 0 && r->controls.types == 0 && chain[0].fitted == 255 && chain[0].shift == 0;
+    for (int i = 0; i < 16; i++)
+        up = up && r->planes.p0[i] == (i < 8 ? 32 : 0) && r->planes.p1[i] == (i < 8 ? 32 : 0);
+    holds("the power-up record, field by field", up);
+    word(0x0111), word(0x0202), word(0x0303), word(0x0515), word(0x0676), word(0x0701), word(0x0C88);
+    int controls = r->controls.decode == 0x11 && r->controls.global == 2 && r->controls.limit == 3 && r->controls.gpio == 0x15;
+    holds("control registers by name", controls && r->controls.ports == 0x76 && r->controls.test == 1 && r->controls.types == 0x88);
+    int bits = (word(0x0440), r->config.i == 1 && r->config.e + r->config.b + r->config.s == 0);
+    bits = bits && (word(0x0408), r->config.e == 1 && r->config.i + r->config.b + r->config.s == 0);
+    bits = bits && (word(0x0404), r->config.b == 1 && r->config.i + r->config.e + r->config.s == 0);
+    holds("configuration bits by name", bits && (word(0x0401), r->config.s == 1 && r->config.i + r->config.e + r->config.b == 0));
+    int arrays = 1;
+    for (unsigned i = 0; i < 8; i++)
+        word(0x1000 + 0x100 * i + 0x30 + i), arrays = arrays && r->intensities[i] == 0x30 + i;
+    for (unsigned i = 0; i < 16; i++)
+        word(0x2000 + 0x100 * i + 0x60 + i), word(0x4000 + 0x100 * i + 0x80 + i), arrays = arrays && r->planes.p0[i] == 0x60 + i && r->planes.p1[i] == 0x80 + i;
+    holds("intensities and both planes by name", arrays);
+    word(0x0680), word(0x0801), word(0x0902), word(0x0A04), word(0x0B08);
+    int keys = r->keys.a.mask == 1 && r->keys.b.mask == 2 && r->keys.c.mask == 4 && r->keys.d.mask == 8;
+    keys = keys && max6954_scan(chain, 1, 1, 0x10, 0x20, 0x40, 0x80) == 0 && r->keys.a.pressed == 0x10 && r->keys.b.pressed == 0x20;
+    keys = keys && r->keys.c.pressed == 0x40 && r->keys.d.pressed == 0x80 && r->keys.a.held == 0 && r->keys.a.debounced == 0;
+    keys = keys && max6954_scan(chain, 1, 1, 0x10, 0x20, 0, 0x80) == 0 && r->keys.a.held == 0x10 && r->keys.b.debounced == 0x20;
+    holds("key groups by name", keys && r->keys.c.held == 0 && r->keys.d.held == 0x80 && r->keys.interrupt == 0);
+    int rest = max6954_set_pins(chain, 1, 1, 21) == 0 && r->pins == 21;
+    holds("pin levels and blink count by name", rest && max6954_add_clocks(chain, 1, 1, 4000007) == 0 && r->blink == 7);
 }
 
 static void examples(void)
@@ -45,6 +93,7 @@ static void examples(void)
     fresh();
     int two = sent(1, 17, "\x81\x01\xFF") == 0 && chain[0].registers.controls.global == 3;
     holds("example 2: 17 clocks, global intensity 3; spare bits sent are ignored, answered 0", two && answered("\x00\x00\x80", 3));
+    chain[0].registers.controls.global = 9;
     int three = max6954_access(chain, 1, 0, NULL, 0, NULL, 0) == 0;
     holds("example 3: 0 clocks, 0203 again", three && chain[0].shift == 0x0203 && chain[0].registers.controls.global == 3);
     fresh();
@@ -53,6 +102,20 @@ static void examples(void)
     fresh();
     int five = sent(2, 16, "\x03\x05") == 0 && chain[0].registers.controls.limit == 5 && chain[0].shift == 0x0305;
     holds("example 5: 16 clocks to two drivers", five && chain[1].shift == 0 && chain[1].registers.controls.limit == 7);
+    static char bytes[513];
+    fresh();
+    memset(bytes, 2, sizeof bytes);
+    int long_access = sent(16, 4096, bytes) == 0 && chain[15].registers.controls.global == 2 && answer[31] == 0 && answer[32] == 2 && answer[512] == 0xEE;
+    holds("example 12: 4,096 clocks to sixteen drivers are served, 4,097 give 3", long_access && sent(16, 4097, bytes) == 3);
+}
+
+/* Whether no pin of a segment answer is driven. */
+static int undriven(max6954_segment_answer s)
+{
+    int none = 1;
+    for (int i = 0; i < 19; i++)
+        none = none && s.pins[i] == MAX6954_NOT_DRIVEN;
+    return none;
 }
 
 static max6954_device records[17];
@@ -92,6 +155,8 @@ static void refusals(void)
     remember();
     refused("7: an unsound record, whichever driver is named", 7, max6954_interrupt(chain, 3, 1).number);
     refused("7: an unsound record, in an access", 7, max6954_access(chain, 3, 48, bytes, 6, answer, 6));
+    int zero = max6954_brightness(chain, 3, 1, 0).sixteenths == 0 && max6954_shown(chain, 3, 1).plane == 0;
+    holds("a refused answer holds 0 and drives no pin", zero && max6954_interrupt(chain, 3, 1).raised == 0 && undriven(max6954_segments(chain, 3, 1, 0, font, 128, font, 128)));
 }
 
 static void questions(void)
@@ -105,10 +170,14 @@ static void questions(void)
     max6954_segment_answer s = max6954_segments(chain, 2, 2, 0, font, 128, font, 128);
     holds("segments: A with its point on cathode 0", served && s.number == 0 && memcmp(s.pins, pins, 19) == 0);
     max6954_segment_answer dark = max6954_segments(chain, 2, 1, 0, font, 128, font, 128);
-    int none = dark.number == 0;
-    for (int i = 0; i < 19; i++)
-        none = none && dark.pins[i] == MAX6954_NOT_DRIVEN;
-    holds("segments: a driver in shutdown is dark", none);
+    holds("segments: a driver in shutdown is dark", dark.number == 0 && undriven(dark));
+    static uint16_t lit[128];
+    memset(lit, 0xFF, sizeof lit);
+    int types = sent(2, 32, "\x0C\x01\x00\x00") == 0;
+    types = types && max6954_segments(chain, 2, 2, 0, lit, 128, font, 128).pins[2] == MAX6954_LIT && max6954_segments(chain, 2, 2, 0, font, 128, lit, 128).pins[2] == MAX6954_UNLIT;
+    chain[1].fitted = 0;
+    types = types && sent(2, 32, "\x0C\x00\x00\x00") == 0 && max6954_segments(chain, 2, 2, 0, lit, 128, font, 128).pins[2] == MAX6954_UNLIT;
+    holds("segments: the first table is for 14 segments, the second for 16", types && max6954_segments(chain, 2, 2, 0, font, 128, lit, 128).pins[2] == MAX6954_LIT);
     max6954_brightness_answer b = max6954_brightness(chain, 2, 2, 15);
     holds("brightness: 1 of 16 at power-up", b.number == 0 && b.sixteenths == 1);
     holds("the plane shown is P0 before 2,000,000 clocks", max6954_plane(chain, 2, 2, p0, 16, p1, 16, 1, 2) == p0 + 1);
@@ -128,6 +197,7 @@ static void questions(void)
 
 int main(void)
 {
+    records_by_name();
     examples();
     refusals();
     questions();

@@ -20,7 +20,7 @@ use Rattle.calls.specs.Served.{served, givenBack, refusedBack, numberAt,
 use Rattle.calls.specs.Isolation.{numberAlone, accepted}
 
 -- the first number of a list that isn't 0 is 0: all are
-first-zero : (k : ℕ) (ks : List ℕ) → firstOf (k ∷ ks) ≡ 0 → (k ≡ 0) × (firstOf ks ≡ 0)
+pub first-zero : (k : ℕ) (ks : List ℕ) → firstOf (k ∷ ks) ≡ 0 → (k ≡ 0) × (firstOf ks ≡ 0)
 first-zero k ks = go (eqb k 0) refl
   where
     go : (b : Bool) → eqb k 0 ≡ b → if b (firstOf ks) k ≡ 0 → (k ≡ 0) × (firstOf ks ≡ 0)

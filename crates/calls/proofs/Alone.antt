@@ -18,7 +18,7 @@ use Rattle.calls.specs.Calls.{Step, Question, Call, access, give, ask}
 use Rattle.calls.specs.Numbers.{allSound}
 use Rattle.calls.specs.Served.{recordOf, stepped, answerTo, served, givenBack, refusedBack, after, reply}
 use Rattle.calls.specs.Lists.{afterAll, numbers, replies}
-use Rattle.calls.specs.Isolation.{numberAlone, accepted, loneStep, loneReply, heard, loneAfter, lone, loneReplies, heardAll, Full, AllFull, Isolation}
+use Rattle.calls.specs.Isolation.{numberAlone, accepted, loneStep, loneReply, answeredBy, loneAfter, lone, loneReplies, allAnsweredBy, Full, AllFull, Isolation}
 use Rattle.calls.proofs.Accepted.{zero-says, driver-there, sent-enough, number-alone, after-by, reply-by}
 use Rattle.calls.proofs.Records.{length-after, length-afterAll}
 use Rattle.calls.proofs.Sound.{after-sound, all-sound}
@@ -27,7 +27,7 @@ use Rattle.calls.proofs.Answered.{taken-at, own-taken, own-answered}
 -- what a served call leaves at driver i's place, and gives back there
 record Own (n i : ℕ) (q : Call) (ds : List Device) : Type 0 where
   left : recordOf (served q ds) i ≡ loneStep n i q (recordOf ds i)
-  back : heard n i q (givenBack q ds) ≡ loneReply i q (recordOf ds i)
+  back : answeredBy n i q (givenBack q ds) ≡ loneReply i q (recordOf ds i)
 
 module _ (i : ℕ) (ds : List Device) (h : 1 ≤ i) (g : i ≤ length ds) where
   -- an access of 16 clocks for each driver
@@ -67,7 +67,7 @@ module _ (i : ℕ) (ds : List Device) (h : 1 ≤ i) (g : i ≤ length ds) where
 -- what one call, served or refused, leaves and gives back
 record Stepped (n i : ℕ) (q : Call) (ds : List Device) : Type 0 where
   left : recordOf (after q ds) i ≡ loneAfter n i q (recordOf ds i)
-  back : if (accepted n q) (heard n i q (reply q ds)) [] ≡ if (accepted n q) (loneReply i q (recordOf ds i)) []
+  back : if (accepted n q) (answeredBy n i q (reply q ds)) [] ≡ if (accepted n q) (loneReply i q (recordOf ds i)) []
 
 -- one call on sound records
 call-own : (i : ℕ) (q : Call) (ds : List Device) → allSound ds ≡ true → Full (length ds) q → 1 ≤ i → i ≤ length ds → Stepped (length ds) i q ds
@@ -84,7 +84,7 @@ call-own i q ds s f h g =
     go-left true t = own i ds h g q f t .left
     go-left false t = refl
 
-    go-back : (b : Bool) → accepted n q ≡ b → if b (heard n i q (if b (givenBack q ds) (refusedBack q))) [] ≡ if b (loneReply i q (recordOf ds i)) []
+    go-back : (b : Bool) → accepted n q ≡ b → if b (answeredBy n i q (if b (givenBack q ds) (refusedBack q))) [] ≡ if b (loneReply i q (recordOf ds i)) []
     go-back true t = own i ds h g q f t .back
     go-back false t = refl
 
@@ -92,11 +92,11 @@ call-own i q ds s f h g =
 record Told (n i : ℕ) (qs : List Call) (ds : List Device) : Type 0 where
   numbered : numbers qs ds ≡ map (numberAlone n) qs
   left : recordOf (afterAll qs ds) i ≡ lone n i qs (recordOf ds i)
-  back : heardAll n i qs (replies qs ds) ≡ loneReplies n i qs (recordOf ds i)
+  back : allAnsweredBy n i qs (replies qs ds) ≡ loneReplies n i qs (recordOf ds i)
 
 -- by induction on the list
 told : (n i : ℕ) → 1 ≤ i → i ≤ n → (qs : List Call) (ds : List Device) → length ds ≡ n → allSound ds ≡ true → AllFull n qs → Told n i qs ds
-unfolding afterAll numbers replies lone loneReplies heardAll AllFull
+unfolding afterAll numbers replies lone loneReplies allAnsweredBy AllFull
 told n i h g [] ds l s f = record { numbered = refl; left = refl; back = refl }
 told n i h g (q ∷ qs) ds l s f =
     let t : Stepped n i q ds = rw l at (call-own i q ds s (rw l (f .0)) h (rw l g)) in

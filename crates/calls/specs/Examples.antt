@@ -17,8 +17,8 @@ abbrev pub fresh : ℕ → List Device
 fresh n = replicate n powerUp
 
 -- an access whose answer bytes have just room enough
-abbrev pub clocked : ℕ → List ℕ → Call
-clocked c sent = access c sent (map (λ b. 0) sent)
+abbrev pub accessOf : ℕ → List ℕ → Call
+accessOf c sent = access c sent (map (λ b. 0) sent)
 
 -- lists in one
 abbrev pub joined : List (List ℕ) → List ℕ
@@ -26,8 +26,8 @@ joined [] = []
 joined (xs ∷ xss) = xs ++ joined xss
 
 -- shift word, global intensity and scan limit of driver j after calls
-abbrev pub held : List Call → List Device → ℕ → List ℕ
-held qs ds j =
+abbrev pub stateOf : List Call → List Device → ℕ → List ℕ
+stateOf qs ds j =
     recordOf (afterAll qs ds) j .shift
     ∷ recordOf (afterAll qs ds) j .registers .controls .global
     ∷ recordOf (afterAll qs ds) j .registers .controls .limit
@@ -38,33 +38,37 @@ abbrev pub chainRows : List (List ℕ × List ℕ)
 chainRows =
     -- 1: n=1, power-up, 0401, 8400, 0000: answers 0000, 0401, 8481
     (
-      joined (replies (clocked 16 (0x04 ∷ 0x01 ∷ []) ∷ clocked 16 (0x84 ∷ 0x00 ∷ []) ∷ clocked 16 (0x00 ∷ 0x00 ∷ []) ∷ []) (fresh 1)),
+      joined (replies (accessOf 16 (0x04 ∷ 0x01 ∷ []) ∷ accessOf 16 (0x84 ∷ 0x00 ∷ []) ∷ accessOf 16 (0x00 ∷ 0x00 ∷ []) ∷ []) (fresh 1)),
       0x00 ∷ 0x00 ∷ 0x04 ∷ 0x01 ∷ 0x84 ∷ 0x81 ∷ [],
     )
     -- 2: n=1, 17 clocks, a 1 and then 0203: global intensity 3
-    ∷ (held (clocked 17 (0x81 ∷ 0x01 ∷ 0x80 ∷ []) ∷ []) (fresh 1) 1, 0x0203 ∷ 3 ∷ 7 ∷ [])
+    ∷ (stateOf (accessOf 17 (0x81 ∷ 0x01 ∷ 0x80 ∷ []) ∷ []) (fresh 1) 1, 0x0203 ∷ 3 ∷ 7 ∷ [])
     -- 3: then 0 clocks: 0203 is taken again; no answer bits
-    ∷ (held (clocked 17 (0x81 ∷ 0x01 ∷ 0x80 ∷ []) ∷ clocked 0 [] ∷ []) (fresh 1) 1, 0x0203 ∷ 3 ∷ 7 ∷ [])
-    ∷ (joined (replies (clocked 0 [] ∷ []) (fresh 1)), [])
+    ∷ (stateOf (accessOf 17 (0x81 ∷ 0x01 ∷ 0x80 ∷ []) ∷ accessOf 0 [] ∷ []) (fresh 1) 1, 0x0203 ∷ 3 ∷ 7 ∷ [])
+    ∷ (
+      joined (replies (accessOf 17 (0x81 ∷ 0x01 ∷ 0x80 ∷ []) ∷ access 0 [] (0xEE ∷ []) ∷ []) (fresh 1)),
+      0x00 ∷ 0x00 ∷ 0x80 ∷ 0xEE ∷ [],
+    )
+    ∷ (numbers (accessOf 17 (0x81 ∷ 0x01 ∷ 0x80 ∷ []) ∷ accessOf 0 [] ∷ []) (fresh 1), 0 ∷ 0 ∷ [])
     -- 3, of a read: the debounced key is taken by 8800, and the same word, taken again at 0 clocks, finds none
     ∷ (
       map (λ qs. recordOf (afterAll qs (fresh 1)) 1 .shift)
           (
-          (clocked 16 (0x06 ∷ 0x20 ∷ []) ∷ give 1 (scan 1 0 0 0) ∷ give 1 (scan 1 0 0 0) ∷ clocked 16 (0x88 ∷ 0x00 ∷ []) ∷ [])
-          ∷ (clocked 16 (0x06 ∷ 0x20 ∷ []) ∷ give 1 (scan 1 0 0 0) ∷ give 1 (scan 1 0 0 0) ∷ clocked 16 (0x88 ∷ 0x00 ∷ []) ∷ clocked 0 [] ∷ [])
+          (accessOf 16 (0x06 ∷ 0x20 ∷ []) ∷ give 1 (scan 1 0 0 0) ∷ give 1 (scan 1 0 0 0) ∷ accessOf 16 (0x88 ∷ 0x00 ∷ []) ∷ [])
+          ∷ (accessOf 16 (0x06 ∷ 0x20 ∷ []) ∷ give 1 (scan 1 0 0 0) ∷ give 1 (scan 1 0 0 0) ∷ accessOf 16 (0x88 ∷ 0x00 ∷ []) ∷ accessOf 0 [] ∷ [])
           ∷ []
           ),
       0x8801 ∷ 0x8800 ∷ [],
     )
     -- 4: n=2, 32 clocks, 0000 0303: driver 1 has scan limit 3, driver 2 a no-op
-    ∷ (held (clocked 32 (0x00 ∷ 0x00 ∷ 0x03 ∷ 0x03 ∷ []) ∷ []) (fresh 2) 1, 0x0303 ∷ 0 ∷ 3 ∷ [])
-    ∷ (held (clocked 32 (0x00 ∷ 0x00 ∷ 0x03 ∷ 0x03 ∷ []) ∷ []) (fresh 2) 2, 0x0000 ∷ 0 ∷ 7 ∷ [])
+    ∷ (stateOf (accessOf 32 (0x00 ∷ 0x00 ∷ 0x03 ∷ 0x03 ∷ []) ∷ []) (fresh 2) 1, 0x0303 ∷ 0 ∷ 3 ∷ [])
+    ∷ (stateOf (accessOf 32 (0x00 ∷ 0x00 ∷ 0x03 ∷ 0x03 ∷ []) ∷ []) (fresh 2) 2, 0x0000 ∷ 0 ∷ 7 ∷ [])
     -- 5: n=2, power-up, 16 clocks 0305: driver 1 takes it, driver 2 takes 0000
-    ∷ (held (clocked 16 (0x03 ∷ 0x05 ∷ []) ∷ []) (fresh 2) 1, 0x0305 ∷ 0 ∷ 5 ∷ [])
-    ∷ (held (clocked 16 (0x03 ∷ 0x05 ∷ []) ∷ []) (fresh 2) 2, 0x0000 ∷ 0 ∷ 7 ∷ [])
+    ∷ (stateOf (accessOf 16 (0x03 ∷ 0x05 ∷ []) ∷ []) (fresh 2) 1, 0x0305 ∷ 0 ∷ 5 ∷ [])
+    ∷ (stateOf (accessOf 16 (0x03 ∷ 0x05 ∷ []) ∷ []) (fresh 2) 2, 0x0000 ∷ 0 ∷ 7 ∷ [])
     -- 12: 4,096 clocks served; 4,097 gives 3
     ∷ (
-      number (clocked 4096 (replicate 512 0x55)) (fresh 1) ∷ number (clocked 4097 (replicate 513 0x55)) (fresh 1) ∷ [],
+      number (accessOf 4096 (replicate 512 0x55)) (fresh 1) ∷ number (accessOf 4097 (replicate 513 0x55)) (fresh 1) ∷ [],
       0 ∷ 3 ∷ [],
     )
     ∷ []

@@ -40,10 +40,10 @@ loneReply i (give j s) d = []
 loneReply i (ask j q) d = if (eqb j i) (answerTo q d ∷ []) []
 
 -- what driver i of n has answered, in what the chain gave back to an accepted call
-abbrev pub heard : ℕ → ℕ → Call → List ℕ → List (List ℕ)
-heard n i (access c sent room) back = (ownWord n i back ∷ []) ∷ []
-heard n i (give j s) back = []
-heard n i (ask j q) back = if (eqb j i) (back ∷ []) []
+abbrev pub answeredBy : ℕ → ℕ → Call → List ℕ → List (List ℕ)
+answeredBy n i (access c sent room) back = (ownWord n i back ∷ []) ∷ []
+answeredBy n i (give j s) back = []
+answeredBy n i (ask j q) back = if (eqb j i) (back ∷ []) []
 
 -- the lone driver after one call; a refused one does nothing
 abbrev pub loneAfter : ℕ → ℕ → Call → Device → Device
@@ -60,10 +60,10 @@ loneReplies n i [] d = []
 loneReplies n i (q ∷ qs) d = if (accepted n q) (loneReply i q d) [] ++ loneReplies n i qs (loneAfter n i q d)
 
 -- all that driver i of the chain has answered to a list of calls
-unfoldable pub heardAll : ℕ → ℕ → List Call → List (List ℕ) → List (List ℕ)
-heardAll n i [] backs = []
-heardAll n i (q ∷ qs) [] = []
-heardAll n i (q ∷ qs) (back ∷ backs) = if (accepted n q) (heard n i q back) [] ++ heardAll n i qs backs
+unfoldable pub allAnsweredBy : ℕ → ℕ → List Call → List (List ℕ) → List (List ℕ)
+allAnsweredBy n i [] backs = []
+allAnsweredBy n i (q ∷ qs) [] = []
+allAnsweredBy n i (q ∷ qs) (back ∷ backs) = if (accepted n q) (answeredBy n i q back) [] ++ allAnsweredBy n i qs backs
 
 -- an accepted access has 16n clocks
 abbrev pub Full : ℕ → Call → Type 0
@@ -83,7 +83,7 @@ pub record Alone (qs : List Call) (ds : List Device) (i : ℕ) : Type 0 where
   -- its record is the lone driver's
   pub same-record : recordOf (afterAll qs ds) i ≡ lone (length ds) i qs (recordOf ds i)
   -- it has answered what the lone driver answers, in order
-  pub same-answers : heardAll (length ds) i qs (replies qs ds) ≡ loneReplies (length ds) i qs (recordOf ds i)
+  pub same-answers : allAnsweredBy (length ds) i qs (replies qs ds) ≡ loneReplies (length ds) i qs (recordOf ds i)
   -- its outputs are the lone driver's: the interrupt, the plane shown, each cathode's pins under any glyph tables, each digit's brightness
   pub same-outputs : (q : Question) → accepted (length ds) (ask i q) ≡ true
       → reply (ask i q) (afterAll qs ds) ≡ answerTo q (lone (length ds) i qs (recordOf ds i))

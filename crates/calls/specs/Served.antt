@@ -44,7 +44,7 @@ stepped (scan a b c d) x = scanned x a b c d
 stepped (levels l) x = withPins x l
 stepped (clocks k) x = clocked x k
 
--- a plane by its number
+-- the number of a plane in an answer
 abbrev pub planeIndex : Plane → ℕ
 planeIndex P0 = 0
 planeIndex P1 = 1
@@ -106,3 +106,7 @@ after q ds = afterAt (length ds) q ds
 -- what it gives back beside its number
 abbrev pub reply : Call → List Device → List ℕ
 reply q ds = replyAt (length ds) q ds
+
+-- the one number of an answer that has one
+abbrev pub only : List ℕ → ℕ
+only xs = getD xs 0 0

@@ -9,7 +9,7 @@ pub fn soundness()
     ensures { λ _. ⌜ Soundness ⌝ }
 {}
 
-// A theorem: a read's answer comes out in the next accepted access, never in its own.
+// A theorem: a read's answer comes out in the next accepted access of at least 16 clocks for each driver, never in its own.
 pub fn next_access()
     ensures { λ _. ⌜ NextAccess ⌝ }
 {}

@@ -1,4 +1,5 @@
 -- The types that the walks of this crate use.
+-- Assumes nothing.
 use Prim.Native.Nat.{_<_, _^_}
 use mathlib.Core.List.{[], _∷_}
 use mir.Syntax.{w8, w32, w64}

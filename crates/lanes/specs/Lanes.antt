@@ -1,4 +1,4 @@
--- Up to sixteen words in four numbers of 64 bits, so that a pass over a chain keeps them in registers.
+-- Up to sixteen words in four numbers of 64 bits.
 -- Assumes nothing.
 use Prim.Native.Nat.{ℕ, _+_, _-_, _*_, _/_, _%_, _^_}
 use mathlib.Core.List.{List, [], _∷_, _++_}

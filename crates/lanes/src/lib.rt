@@ -10,7 +10,7 @@ pub struct Lanes {
     pub d: u64,
 }
 
-// 48 bits: the three lower words of a lane.
+// The place of a lane's highest word.
 const HIGH: u64 = 0x1000000000000;
 
 // How many of n words there is room for: none of more than sixteen.

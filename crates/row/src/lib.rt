@@ -2,9 +2,9 @@
 ghost use mathlib.Core.Path.{_≡_};
 ghost use lib.ListN.{length};
 ghost use Rattle.calls.specs.Calls.{access as accessCall, give, ask, scan as scanStep, levels as levelsStep, clocks as clocksStep, plane as planeQuestion, segments as segmentsQuestion, brightness as brightnessQuestion, shown as shownQuestion, interrupt as interruptQuestion};
+ghost use Rattle.calls.specs.Served.{only};
 ghost use Rattle.survey.specs.Survey.{surveyOf};
 ghost use Rattle.survey.specs.Change.{applied};
-ghost use Rattle.survey.specs.Calls.{only};
 ghost use Rattle.row.specs.Row.{fresh, numberOn, replyOn, doneOn};
 use brightness::BrightnessAnswer;
 use device::Device;

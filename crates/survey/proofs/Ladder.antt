@@ -2,23 +2,16 @@
 -- Assumes nothing.
 use Prim.Native.Nat.{ℕ}
 use mathlib.Core.Bool.{Bool, true, false}
-use mathlib.Core.List.{List, [], _∷_}
+use mathlib.Core.List.{[], _∷_}
 use mathlib.Core.Path.{_≡_, refl, sym}
 use lib.Dec.{eqb}
-use borrow.Author.Tests.{eqb-true, eqb-false}
+use borrow.Author.Tests.{eqb-true}
 use Rattle.words.specs.Choice.{if}
 use Rattle.wire.specs.Shift.{sizeNumber}
 use Rattle.calls.specs.Numbers.{chainNumber, driverNumber, soundNumber, firstOf}
+use Rattle.calls.proofs.Accepted.{first-zero}
 use Rattle.survey.specs.Calls.{namedNumber, accessNumber}
 use Rattle.survey.specs.declared.Survey.{Survey}
-
--- each number of a list whose first that isn't 0 is 0
-pub first-zero : (k : ℕ) (ks : List ℕ) → firstOf (k ∷ ks) ≡ 0 → (k ≡ 0) × (firstOf ks ≡ 0)
-first-zero k ks = go (eqb k 0) refl
-  where
-    go : (b : Bool) → eqb k 0 ≡ b → if b (firstOf ks) k ≡ 0 → (k ≡ 0) × (firstOf ks ≡ 0)
-    go true e z = (eqb-true k 0 e, z)
-    go false e z = absurd (eqb-false k 0 e z)
 
 -- the last number of a list needs no test
 pub first-last : (k : ℕ) → firstOf (k ∷ []) ≡ k

@@ -3,7 +3,7 @@
 use Prim.Native.Nat.{ℕ, _-_}
 use mathlib.Core.List.{List, [], _∷_}
 use lib.Dec.{eqb}
-use lib.ListN.{length, getD, replicate}
+use lib.ListN.{length, replicate}
 use Rattle.words.specs.Choice.{if}
 use Rattle.wire.specs.Shift.{sizeNumber, wordsAfter, roomAfter}
 use Rattle.device.specs.declared.Device.{Device}
@@ -63,7 +63,3 @@ askedNumber s q = namedNumber s (questionNumber q)
 -- a question: its answer
 abbrev pub asked : Survey → Question → List ℕ
 asked s q = if (eqb (askedNumber s q) 0) (answerTo q (s .named)) (refusedTo q)
-
--- the one number of an answer that has one
-abbrev pub only : List ℕ → ℕ
-only xs = getD xs 0 0

@@ -4,7 +4,7 @@ use mathlib.Core.Path.{_≡_}
 use mathlib.Core.List.{[]}
 use denote.Triple.Table.{cited}
 use Rattle.calls.specs.Calls.{shown}
-use Rattle.survey.specs.Calls.{only}
+use Rattle.calls.specs.Served.{only}
 use Rattle.survey.proofs.Survey.shown.Symbol as work-def
 use Rattle.survey.proofs.Survey.shown.Met as work-thm
 use Rattle.chain.proofs.Records.{shownAnswer}

@@ -5,6 +5,7 @@ test:
 	@sh tests/gate
 
 bench:
-	@rt staticlib chain >/dev/null
+	@mkdir -p target
+	@rt staticlib chain >target/bench.log 2>&1 || { cat target/bench.log; exit 1; }
 	@$(CC) -std=c11 -Wall -Wextra -O2 -Iinclude bench/speed.c target/staticlib/libchain.a -o target/speed
 	@target/speed

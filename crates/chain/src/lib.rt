@@ -20,7 +20,7 @@ fn surveyed(chain: &[Device], driver: usize) -> Survey
     ensures { λ r. ⌜ r ≡ surveyOf (length (now (chain .entry))) (now (chain .entry)) driver ⌝ }
 {
     let n = chain.len();
-    let m = survey::counted(n);
+    let m = lanes::counted(n);
     let mut s = Seen::new();
     let mut i = 0;
     while i < m {

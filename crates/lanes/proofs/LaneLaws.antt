@@ -13,11 +13,18 @@ use borrow.Author.Tests.{ltb-true}
 use Rattle.words.specs.Choice.{if}
 use Rattle.words.specs.Lists.{tabulate}
 use Rattle.words.proofs.Lists.{length-tabulate, getD-tabulate}
-use Rattle.lanes.specs.Lanes.{room, noWords, wordAdded, wordsAdded, wordBack}
+use Rattle.lanes.specs.Lanes.{counted, noWords, wordAdded, wordsAdded, wordBack}
 use Rattle.lanes.specs.declared.Lanes.{Lanes}
 
-pub room-16 : (n : ℕ) → room n ≤ 16
-room-16 n = go (ltb n 17) refl
+pub counted-le : (n : ℕ) → counted n ≤ n
+counted-le n = go (ltb n 17)
+  where
+    go : (b : Bool) → if b n 0 ≤ n
+    go true = omega arith
+    go false = omega arith
+
+pub counted-16 : (n : ℕ) → counted n ≤ 16
+counted-16 n = go (ltb n 17) refl
   where
     go : (b : Bool) → ltb n 17 ≡ b → if b n 0 ≤ 16
     go true e = omega (arith, ltb-true n 17 e)

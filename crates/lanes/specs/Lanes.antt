@@ -35,9 +35,9 @@ laneAt l j = if (eqb j 0) (l .a) (if (eqb j 1) (l .b) (if (eqb j 2) (l .c) (if (
 abbrev pub wordBack : Lanes → ℕ → ℕ
 wordBack l k = laneAt l (k / 4) / 2 ^ (16 * (k % 4)) % 65536
 
--- how many of n words there is room for: none of more than sixteen
-abbrev pub room : ℕ → ℕ
-room n = if (ltb n 17) n 0
+-- how many of n are counted: none of more than sixteen
+abbrev pub counted : ℕ → ℕ
+counted n = if (ltb n 17) n 0
 
 -- the last n words, the first of them first, in a list of sixteen
 abbrev pub wordsIn : Lanes → ℕ → List ℕ

@@ -1,6 +1,6 @@
 // Up to sixteen words in four numbers of 64 bits.
 ghost use mathlib.Core.Path.{_≡_};
-ghost use Rattle.lanes.specs.Lanes.{noWords, wordAdded, laneAt, wordBack, room, wordsIn};
+ghost use Rattle.lanes.specs.Lanes.{noWords, wordAdded, laneAt, wordBack, counted, wordsIn};
 
 // Up to sixteen words in four lanes of four, the last one in the lowest bits of lane a.
 pub struct Lanes {
@@ -13,9 +13,9 @@ pub struct Lanes {
 // The place of a lane's highest word.
 const HIGH: u64 = 0x1000000000000;
 
-// How many of n words there is room for: none of more than sixteen.
-fn room(n: usize) -> usize
-    ensures { λ r. ⌜ r ≡ room n ⌝ }
+// How many of n are counted: none of more than sixteen.
+pub fn counted(n: usize) -> usize
+    ensures { λ r. ⌜ r ≡ counted n ⌝ }
 {
     if n < 17 { n } else { 0 }
 }
@@ -72,9 +72,9 @@ impl Lanes {
 
     // The last n words, at most sixteen, the first of them first.
     pub fn words(self, n: usize) -> [u16; 16]
-        ensures { λ r. ⌜ r ≡ wordsIn self (room n) ⌝ }
+        ensures { λ r. ⌜ r ≡ wordsIn self (counted n) ⌝ }
     {
-        let m = room(n);
+        let m = counted(n);
         let mut words = [0; 16];
         let mut i = 0;
         while i < m {

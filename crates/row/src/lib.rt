@@ -31,7 +31,7 @@ pub struct Done {
 fn surveyed(devices: [Device; 16], n: usize, driver: usize) -> Survey
     ensures { λ r. ⌜ (r ≡ surveyOf n devices driver) × (length devices ≡ 16) ⌝ }
 {
-    let m = survey::counted(n);
+    let m = lanes::counted(n);
     let mut s = Seen::new();
     let mut i = 0;
     while i < m {

@@ -23,11 +23,11 @@ use Rattle.device.specs.declared.Device.{Device}
 use Rattle.calls.specs.Calls.{Step, Question, access, give, ask}
 use Rattle.calls.specs.Numbers.{chainNumber, driverNumber, stepNumber, questionNumber, soundNumber, allSound, firstOf}
 use Rattle.calls.specs.Served.{recordOf, withRecord, shiftWords, allTaken, stepped, answerTo, refusedTo, numberAt, afterAt, replyAt}
-use Rattle.lanes.specs.Lanes.{noWords, wordsAdded, wordBack, wordsIn}
+use Rattle.lanes.specs.Lanes.{counted, noWords, wordsAdded, wordBack, wordsIn}
 use Rattle.lanes.proofs.LaneLaws.{words-back}
-use Rattle.survey.specs.Survey.{counted, surveyOf}
+use Rattle.survey.specs.Survey.{surveyOf}
 use Rattle.survey.specs.Change.{stopOf, nextOf, appliedTo, applied}
-use Rattle.survey.specs.Calls.{namedNumber, accessNumber, changeTo, given, accessed, accessRoom, askedNumber, asked}
+use Rattle.survey.specs.Calls.{callNumber, accessNumber, changeTo, given, accessed, accessRoom, askedNumber, asked}
 use Rattle.survey.specs.declared.Survey.{Survey}
 use Rattle.survey.specs.declared.Change.{Change}
 use Rattle.survey.proofs.SurveyLaws.{length-applied, at-applied, applied-start, applied-more}
@@ -106,7 +106,7 @@ module _ (n : ℕ) (xs : List Device) (long : n < 17 → n ≤ length xs) where
       rw (whole z) (take-at (tabulate n (λ i. wordBack (wordsAdded noWords ws) (n - 1 - i))) (drop n (replicate 16 0)) n (length-tabulate n _) ∙ rw l at back)
 
   -- the number of a call that names a driver, by its argument's own number
-  number-tie : (j own : ℕ) → namedNumber (surveyOf n xs j) own
+  number-tie : (j own : ℕ) → callNumber (surveyOf n xs j) own
       ≡ firstOf (chainNumber n ∷ driverNumber n j ∷ own ∷ soundNumber (allSound (take n xs)) ∷ [])
   number-tie j own =
       same-first (chainNumber n) (driverNumber n j ∷ own ∷ soundNumber (eqb (surveyOf n xs j .unsound) 0) ∷ []) (driverNumber n j ∷ own ∷ soundNumber (allSound (take n xs)) ∷ []) (λ z. rw (sound-tie j z))
@@ -118,7 +118,7 @@ module _ (n : ℕ) (xs : List Device) (long : n < 17 → n ≤ length xs) where
   -- in room for m records
   pub give-after : (m : ℕ) → (n < 17 → n ≤ m) → (j : ℕ) (st : Step) → applied m xs (given (surveyOf n xs j) st) ≡ afterAt n (give j st) (take n xs) ++ drop n xs
   unfolding afterAt
-  give-after m wide j st = rw (← give-number j st) (go (namedNumber s (stepNumber st)) (named-zero s (stepNumber st)) (eqb (namedNumber s (stepNumber st)) 0) refl)
+  give-after m wide j st = rw (← give-number j st) (go (callNumber s (stepNumber st)) (named-zero s (stepNumber st)) (eqb (callNumber s (stepNumber st)) 0) refl)
     where
       s : Survey
       s = surveyOf n xs j

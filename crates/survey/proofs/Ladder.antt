@@ -10,7 +10,7 @@ use Rattle.words.specs.Choice.{if}
 use Rattle.wire.specs.Shift.{sizeNumber}
 use Rattle.calls.specs.Numbers.{chainNumber, driverNumber, soundNumber, firstOf}
 use Rattle.calls.proofs.Accepted.{first-zero}
-use Rattle.survey.specs.Calls.{namedNumber, accessNumber}
+use Rattle.survey.specs.Calls.{callNumber, accessNumber}
 use Rattle.survey.specs.declared.Survey.{Survey}
 
 -- the last number of a list needs no test
@@ -22,7 +22,7 @@ first-last k = go (eqb k 0) refl
     go false e = refl
 
 -- the number of a call that names a driver is 0: so is each of its four
-pub named-zero : (s : Survey) (own : ℕ) → namedNumber s own ≡ 0
+pub named-zero : (s : Survey) (own : ℕ) → callNumber s own ≡ 0
     → (chainNumber (s .n) ≡ 0) × (driverNumber (s .n) (s .driver) ≡ 0) × (own ≡ 0) × (soundNumber (eqb (s .unsound) 0) ≡ 0)
 named-zero s own z =
     let sound = soundNumber (eqb (s .unsound) 0) in

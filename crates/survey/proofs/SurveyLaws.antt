@@ -20,23 +20,9 @@ use Rattle.calls.specs.Numbers.{allSound}
 use Rattle.calls.specs.Served.{shiftWords}
 use Rattle.lanes.specs.Lanes.{noWords, wordAdded, wordsAdded}
 use Rattle.lanes.specs.declared.Lanes.{Lanes}
-use Rattle.survey.specs.Survey.{counted, placeOf, nothingSeen, seenAlso, seenAt}
+use Rattle.survey.specs.Survey.{placeOf, nothingSeen, seenAlso, seenAt}
 use Rattle.survey.specs.Change.{stopOf, nextOf, appliedTo}
 use Rattle.survey.specs.declared.Change.{Change}
-
-pub counted-le : (n : ℕ) → counted n ≤ n
-counted-le n = go (ltb n 17)
-  where
-    go : (b : Bool) → if b n 0 ≤ n
-    go true = omega arith
-    go false = omega arith
-
-pub counted-16 : (n : ℕ) → counted n ≤ 16
-counted-16 n = go (ltb n 17) refl
-  where
-    go : (b : Bool) → ltb n 17 ≡ b → if b n 0 ≤ 16
-    go true e = omega (arith, ltb-true n 17 e)
-    go false e = omega arith
 
 pub seen-start : (xs : List Device) → nothingSeen ≡ seenAt xs 0
 unfolding allSound wordsAdded

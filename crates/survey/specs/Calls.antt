@@ -10,14 +10,13 @@ use Rattle.device.specs.declared.Device.{Device}
 use Rattle.calls.specs.Calls.{Step, Question}
 use Rattle.calls.specs.Numbers.{chainNumber, driverNumber, stepNumber, questionNumber, soundNumber, firstOf}
 use Rattle.calls.specs.Served.{stepped, answerTo, refusedTo}
-use Rattle.lanes.specs.Lanes.{wordsIn}
-use Rattle.survey.specs.Survey.{counted}
+use Rattle.lanes.specs.Lanes.{counted, wordsIn}
 use Rattle.survey.specs.declared.Survey.{Survey}
 use Rattle.survey.specs.declared.Change.{Change}
 
 -- the number of a call that names a driver, by its argument's own number
-abbrev pub namedNumber : Survey → ℕ → ℕ
-namedNumber s own = firstOf (chainNumber (s .n) ∷ driverNumber (s .n) (s .driver) ∷ own ∷ soundNumber (eqb (s .unsound) 0) ∷ [])
+abbrev pub callNumber : Survey → ℕ → ℕ
+callNumber s own = firstOf (chainNumber (s .n) ∷ driverNumber (s .n) (s .driver) ∷ own ∷ soundNumber (eqb (s .unsound) 0) ∷ [])
 
 -- the number of an access
 abbrev pub accessNumber : Survey → ℕ → ℕ → ℕ → ℕ
@@ -37,7 +36,7 @@ changeTo s k d =
 
 -- a driver is given a scan, pin levels or master clocks
 abbrev pub given : Survey → Step → Change
-given s st = changeTo s (namedNumber s (stepNumber st)) (stepped st (s .named))
+given s st = changeTo s (callNumber s (stepNumber st)) (stepped st (s .named))
 
 -- an access: what changes
 abbrev pub accessed : Survey → ℕ → List ℕ → List ℕ → Change
@@ -58,7 +57,7 @@ accessRoom s c sent room =
 
 -- a question: its number
 abbrev pub askedNumber : Survey → Question → ℕ
-askedNumber s q = namedNumber s (questionNumber q)
+askedNumber s q = callNumber s (questionNumber q)
 
 -- a question: its answer
 abbrev pub asked : Survey → Question → List ℕ

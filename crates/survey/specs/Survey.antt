@@ -11,13 +11,9 @@ use Rattle.device.specs.Sound.{soundOf}
 use Rattle.device.specs.declared.Device.{Device}
 use Rattle.calls.specs.Numbers.{allSound}
 use Rattle.calls.specs.Served.{shiftWords}
-use Rattle.lanes.specs.Lanes.{noWords, wordAdded, wordsAdded}
+use Rattle.lanes.specs.Lanes.{counted, noWords, wordAdded, wordsAdded}
 use Rattle.survey.specs.declared.Seen.{Seen}
 use Rattle.survey.specs.declared.Survey.{Survey}
-
--- how many records of n are looked at: none where there are more than 16
-abbrev pub counted : ℕ → ℕ
-counted n = if (ltb n 17) n 0
 
 -- the index of a driver among m records, m where it isn't in 1..m
 abbrev pub placeOf : ℕ → ℕ → ℕ

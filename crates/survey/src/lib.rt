@@ -8,9 +8,9 @@ ghost use Rattle.device.specs.PowerUp.{powerUp};
 ghost use Rattle.calls.specs.Calls.{scan as scanStep, levels as levelsStep, clocks as clocksStep, plane as planeQuestion, segments as segmentsQuestion, brightness as brightnessQuestion, shown as shownQuestion, interrupt as interruptQuestion};
 ghost use Rattle.calls.specs.Served.{planeIndex, only};
 ghost use Rattle.calls.specs.Numbers.{chainNumber, driverNumber, stepNumber, soundNumber};
-ghost use Rattle.survey.specs.Survey.{counted, placeOf, nothingSeen, seenAlso, surveyBy};
+ghost use Rattle.survey.specs.Survey.{placeOf, nothingSeen, seenAlso, surveyBy};
 ghost use Rattle.survey.specs.Change.{stopOf, nextOf};
-ghost use Rattle.survey.specs.Calls.{namedNumber, accessNumber, changeTo, given, accessed, accessRoom, askedNumber, asked};
+ghost use Rattle.survey.specs.Calls.{callNumber, accessNumber, changeTo, given, accessed, accessRoom, askedNumber, asked};
 use brightness::BrightnessAnswer;
 use device::Device;
 use display::SegmentAnswer;
@@ -62,13 +62,6 @@ pub struct ShownAnswer {
 pub struct InterruptAnswer {
     pub number: u8,
     pub raised: u8,
-}
-
-// How many records of n are looked at.
-pub fn counted(n: usize) -> usize
-    ensures { λ r. ⌜ r ≡ counted n ⌝ }
-{
-    if n < 17 { n } else { 0 }
 }
 
 // The index of a driver among m records, m where it isn't in 1..m.
@@ -157,7 +150,7 @@ fn first_of(a: u8, b: u8) -> u8
 
 // The number of a call that names a driver, by its argument's own number.
 fn named_number(s: Survey, own: u8) -> u8
-    ensures { λ r. ⌜ r ≡ namedNumber s own ⌝ }
+    ensures { λ r. ⌜ r ≡ callNumber s own ⌝ }
 {
     let later = first_of(own, sound_number(s.unsound));
     let driver = first_of(driver_number(s.n, s.driver), later);

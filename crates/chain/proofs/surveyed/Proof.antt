@@ -7,13 +7,15 @@ use Rattle.device.specs.PowerUp.{powerUp}
 use Rattle.device.specs.declared.Device.{Device}
 use Rattle.device.proofs.Device as T
 use Rattle.device.proofs.Device.Laws as T′
-use Rattle.survey.specs.Survey.{counted, placeOf, nothingSeen, seenAlso, seenAt, surveyBy}
+use Rattle.lanes.specs.Lanes.{counted}
+use Rattle.lanes.proofs.LaneLaws.{counted-le, counted-16}
+use Rattle.survey.specs.Survey.{placeOf, nothingSeen, seenAlso, seenAt, surveyBy}
 use Rattle.survey.specs.declared.Seen.{Seen}
 use Rattle.survey.specs.declared.Survey.{Survey}
-use Rattle.survey.proofs.SurveyLaws.{counted-le, counted-16, seen-start, seen-more, namedOf, named-there, named-none}
-use Rattle.survey.proofs.counted as counted′
-use Rattle.survey.proofs.counted.Symbol as counted-def
-use Rattle.survey.proofs.counted.Met as counted-thm
+use Rattle.survey.proofs.SurveyLaws.{seen-start, seen-more, namedOf, named-there, named-none}
+use Rattle.lanes.proofs.counted as counted′
+use Rattle.lanes.proofs.counted.Symbol as counted-def
+use Rattle.lanes.proofs.counted.Met as counted-thm
 use Rattle.survey.proofs.place as place′
 use Rattle.survey.proofs.place.Symbol as place-def
 use Rattle.survey.proofs.place.Met as place-thm
@@ -169,6 +171,6 @@ surveyed-spec 𝓤 H 𝓜 𝓖 𝓡 =
     proves 𝓤 H 𝓜 𝓖 𝓡 code.env surveyed.ended stayed (surveyed.clauses 𝓤 H (𝓖 .A) (𝓜 .mem) (𝓡 .run)) (goes-none-slice 𝓤 H (𝓖 .A) (givenOf 𝓤 H 𝓜 𝓖) 1 (0 ∷ []) tt (plain (λ _. R)) yes, (goes-none 𝓤 H (𝓖 .A) (givenOf 𝓤 H 𝓜 𝓖) 1 (λ _. size .row) yes (λ κs x f. refl), tt))
     key.name code.function (code.unfolded 𝓤 H 𝓜 𝓡) (λ κs. (slice-vals, ((λ n. size .val n ∷ []), tt))) (λ κs. (shr-slice-tells (named 0) (κs .0) R, (size .tells, tt)))
     (λ κs qs bounds a g are. via 𝓤 _ (fst∗ 𝓤 _ (emp 𝓤)) (walk 𝓤 H (𝓖 .A) (givenOf 𝓤 H 𝓜 𝓖) (𝓜 .mem) (𝓡 .run) (κs .0) (qs .0) (a .0 .ptr .0) (a .0 .ptr .1) (a .0 .name) (a .0 .now) (a .1 .0) (tablesOf 𝓤 H 𝓜 (tables 𝓤 H 𝓜 𝓡 code.env))
-    (cited 𝓤 H _ 𝓜 𝓡 code.env counted-def.name counted-def.routine code.calls-survey·counted (counted-thm.met 𝓤 H 𝓜 𝓖 𝓡)) (cited 𝓤 H _ 𝓜 𝓡 code.env place-def.name place-def.routine code.calls-survey·place (place-thm.met 𝓤 H 𝓜 𝓖 𝓡))
+    (cited 𝓤 H _ 𝓜 𝓡 code.env counted-def.name counted-def.routine code.calls-lanes·counted (counted-thm.met 𝓤 H 𝓜 𝓖 𝓡)) (cited 𝓤 H _ 𝓜 𝓡 code.env place-def.name place-def.routine code.calls-survey·place (place-thm.met 𝓤 H 𝓜 𝓖 𝓡))
     (cited 𝓤 H _ 𝓜 𝓡 code.env none-def.name none-def.routine code.calls-survey·Seen·new (none-thm.met 𝓤 H 𝓜 𝓖 𝓡)) (cited 𝓤 H _ 𝓜 𝓡 code.env also-def.name also-def.routine code.calls-survey·Seen·with (also-thm.met 𝓤 H 𝓜 𝓖 𝓡))
     (cited 𝓤 H _ 𝓜 𝓡 code.env new-def.name new-def.routine code.calls-survey·Survey·new (new-thm.met 𝓤 H 𝓜 𝓖 𝓡)) (cited 𝓤 H _ 𝓜 𝓡 code.env unnamed-def.name unnamed-def.routine code.calls-survey·Survey·unnamed (unnamed-thm.met 𝓤 H 𝓜 𝓖 𝓡)) (are .0 .0 .1) (are .1 .0)))

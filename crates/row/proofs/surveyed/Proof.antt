@@ -6,8 +6,10 @@ use lib.ListN.{length, getD}
 use borrow.Author.Needs.{needs}
 use Rattle.device.specs.PowerUp.{powerUp}
 use Rattle.survey.specs.declared.Seen.{Seen}
-use Rattle.survey.proofs.SurveyLaws.{counted-16, seen-start, seen-more, namedOf, named-there, named-none}
-use Rattle.survey.specs.Survey.{counted, placeOf, seenAt, surveyBy}
+use Rattle.survey.proofs.SurveyLaws.{seen-start, seen-more, namedOf, named-there, named-none}
+use Rattle.lanes.specs.Lanes.{counted}
+use Rattle.lanes.proofs.LaneLaws.{counted-16}
+use Rattle.survey.specs.Survey.{placeOf, seenAt, surveyBy}
 use Rattle.row.proofs.Elements.{nothing, element}
 use Rattle.row.proofs.surveyed.Statement.{statement}
 use Rattle.row.proofs.surveyed.Tie as tie

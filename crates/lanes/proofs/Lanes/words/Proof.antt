@@ -8,7 +8,7 @@ use borrow.Author.Needs.{needs}
 use Rattle.words.proofs.Lists.{tabulate-none, tabulate-more}
 use Rattle.words.specs.Lists.{tabulate}
 use Rattle.lanes.specs.Lanes.{wordBack}
-use Rattle.lanes.proofs.LaneLaws.{room-16}
+use Rattle.lanes.proofs.LaneLaws.{counted-16}
 use Rattle.lanes.proofs.Lanes.words.Statement.{statement}
 use Rattle.lanes.proofs.Lanes.words.Tie as tie
 
@@ -18,11 +18,11 @@ Inv-loop self n m words₀ i₀ words i = (i ≤ m) × (m ≤ 16) × (length wor
 abbrev μ-loop : tie.MeasureT-loop
 μ-loop self n m words₀ i₀ words i = m - i
 
-room-requires : tie.Need-room-requires Inv-loop μ-loop
-room-requires c κs = search needs
+counted-requires : tie.Need-counted-requires Inv-loop μ-loop
+counted-requires c κs = search needs
 
 loop-holds : tie.Need-loop-holds Inv-loop μ-loop
-loop-holds c = (omega arith, rw (c .room .ensures) (room-16 (c .before .args .n)), refl, tabulate-none _ _)
+loop-holds c = (omega arith, rw (c .counted .ensures) (counted-16 (c .before .args .n)), refl, tabulate-none _ _)
 
 sub-back : tie.Need-sub-back Inv-loop μ-loop
 sub-back c = search needs
@@ -57,7 +57,7 @@ loop-again c =
 returns : tie.Need-returns Inv-loop μ-loop
 returns c =
     let l = c .before .loop in
-    let m = c .before .before .room in
+    let m = c .before .before .counted in
     let e : l .i ≡ m .result = omega arith in
     l .inv .3 ∙ rw (e, m .ensures)
 
@@ -67,7 +67,7 @@ words-spec =
     (tie.spec
     Inv-loop
     μ-loop
-    room-requires
+    counted-requires
     loop-holds
     sub-back
     sub-back-2

@@ -1,7 +1,7 @@
--- `survey::counted` meets its contract. Assumes nothing.
+-- `lanes::counted` meets its contract. Assumes nothing.
 use Rattle.words.proofs.Tests.{tests}
-use Rattle.survey.proofs.counted.Statement.{statement}
-use Rattle.survey.proofs.counted.Tie as tie
+use Rattle.lanes.proofs.counted.Statement.{statement}
+use Rattle.lanes.proofs.counted.Tie as tie
 
 returns : tie.Need-returns
 returns c = search tests

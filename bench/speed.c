@@ -1,7 +1,11 @@
-/* The speed of the exported calls: an access beside two shift registers in plain C, and each call at 1, 4 and 16 drivers.
-   The best of nine rounds, in nanoseconds a call. */
+/* The speed of the exported calls. The best of nine rounds, in nanoseconds a call.
+     speed accesses         for each size: drivers, clocks, an access, and a shift register in plain C by clock and by bit index
+     speed calls            a table of each call at 1, 4 and 16 drivers
+     speed count N CLOCKS   ten accesses, and ten of the shift register by clock, to be counted by callgrind */
 #define _POSIX_C_SOURCE 199309L
 #include <stdio.h>
+#include <stdlib.h>
+#include <string.h>
 #include <time.h>
 #include "ratchetelm.h"
 
@@ -11,7 +15,7 @@ static max6954_device chain[16];
 static volatile unsigned sink;
 
 /* A plain shift register, one clock at a time. It takes no word. */
-static void by_clock(uint16_t *words, size_t n, size_t clocks)
+__attribute__((noinline)) static void by_clock(uint16_t *words, size_t n, size_t clocks)
 {
     for (size_t k = 0; k < clocks; k++) {
         if (k % 8 == 0)
@@ -77,8 +81,6 @@ static void fresh(void)
 static void accesses(void)
 {
     static const size_t lengths[] = { 1, 2, 16 }, clocks[] = { 0, 16, 256, 4096 };
-    printf("an access, ns: ours (words taken too), a shift register in C by clock and by bit index, and their ratios to ours\n");
-    printf("drivers clocks     ours  by clock  by index  clock/ours  index/ours\n");
     for (int a = 0; a < 3; a++)
         for (int b = 0; b < 4; b++) {
             size_t n = lengths[a], c = clocks[b];
@@ -89,7 +91,7 @@ static void accesses(void)
             BEST(ours, turns, sink += max6954_access(chain, n, c, sent, sizeof sent, answer, sizeof answer));
             BEST(plain, turns, (by_clock(words, n, c), sink += answer[0] + words[0]));
             BEST(index, turns, (by_index(words, n, c), sink += answer[0] + words[0]));
-            printf("%7zu %6zu %8.1f %9.1f %9.1f %11.2f %11.2f\n", n, c, ours, plain, index, plain / ours, index / ours);
+            printf("%zu %zu %.2f %.2f %.2f\n", n, c, ours, plain, index);
         }
 }
 
@@ -111,19 +113,36 @@ static void calls(void)
         BEST(ns[7][a], 10000, sink += max6954_interrupt(chain, n, n).raised);
         BEST(ns[8][a], 10000, sink += max6954_plane_number(chain, n, n, plane, 16, plane, 16, 2, 9));
     }
-    printf("\neach call, ns, on 1, 4 and 16 drivers\n");
+    printf("each call, ns       1 driver 4 drivers 16 drivers\n");
     for (int i = 0; i < 9; i++)
-        printf("%-18s %7.1f %7.1f %7.1f\n", names[i], ns[i][0], ns[i][1], ns[i][2]);
+        printf("%-18s %9.1f %9.1f %10.1f\n", names[i], ns[i][0], ns[i][1], ns[i][2]);
 }
 
-int main(void)
+static void count(size_t n, size_t clocks)
+{
+    uint16_t words[16] = { 0 };
+    fresh();
+    for (int turn = 0; turn < 10; turn++) {
+        sink += max6954_access(chain, n, clocks, sent, sizeof sent, answer, sizeof answer);
+        by_clock(words, n, clocks);
+        sink += answer[0] + words[0];
+    }
+}
+
+int main(int argc, char **argv)
 {
     /* digit writes to every digit, in turn */
     for (int i = 0; i < 512; i++)
         sent[i] = (uint8_t)(i % 2 ? i * 37 : 0x20 + i / 2 % 16);
     for (int i = 0; i < 128; i++)
         font[i] = (uint16_t)(257 * i);
-    accesses();
-    calls();
+    if (argc == 4 && strcmp(argv[1], "count") == 0)
+        count(strtoul(argv[2], NULL, 10), strtoul(argv[3], NULL, 10));
+    else if (argc == 2 && strcmp(argv[1], "accesses") == 0)
+        accesses();
+    else if (argc == 2 && strcmp(argv[1], "calls") == 0)
+        calls();
+    else
+        return 2;
     return 0;
 }

@@ -1,21 +1,22 @@
 /* The bench double of a chain of MAX6954, for C and C++. Link target/staticlib/libchain.a (rt staticlib chain).
 
-   A chain is an array of records, nearest the controller first, lent to each call as a pointer and a length. Drivers are counted from 1.
-   No call allocates, keeps a pointer or writes where it was not lent; any bytes are some record.
+   A chain is an array of 1 to 16 records, nearest the controller first, lent to each call as a pointer and a length. Drivers are counted from 1.
+   No call allocates, keeps a pointer or writes where it was not lent. Any bytes are a record: one that isn't sound is refused, never undefined.
 
    The caller sees to it that a pointer is valid and aligned for the length that comes with it (NULL will do for 0), that what a call writes (the
    chain of an access, a scan, pin levels or clocks; the answer bytes) overlaps nothing else that is lent to it, so answer isn't sent, and that
-   nobody else writes the records meanwhile.
+   nobody else writes the records meanwhile. Lengths count elements: records, bytes, or words of a glyph table.
 
-   Each call gives a number, the lowest of these that applies; apart from 0 no record and no lent byte changes:
-     0 served
+   Each call gives a number: 0 where it is served, else the lowest of these that applies, and then no record and no lent byte has changed:
      1 the chain has 0 or more than 16 records
      2 driver number not in 1..n
      3 more than 4,096 clocks in one access
      4 sent bytes fewer than the clocks need (clocks / 8, rounded up)
      5 room for answer bytes fewer than the clocks need
-     6 cathode above 7, pin levels above 31, digit above 15, last digit below the first, a lent plane not 16 long, a glyph table not 128 long
-     7 some record of the chain isn't sound: a field doesn't fit its register, or the blink count isn't below 4,000,000 */
+     6 cathode above 7, pin levels above 31, a digit (alone or in a range) above 15, a range's last digit below its first, a lent plane not 16
+       long, or a glyph table not 128 long
+     7 some record of the chain isn't sound: a field doesn't fit its register, or the blink count isn't below 4,000,000
+   Any call may give 1 and 7, one that names a driver 2 too; which of 3 to 6 it may give stands with it. */
 #ifndef RATCHETELM_H
 #define RATCHETELM_H
 
@@ -26,68 +27,73 @@
 extern "C" {
 #endif
 
+/* The control registers as stored, each by its address. */
 typedef struct {
-    uint8_t decode;    /* 0x01 decode mode, bit d for cathode d */
+    uint8_t decode;    /* 0x01 decode mode, bit d for digits d and da: 1 is the hex font, 0 a bit for each segment; 7-segment pairs only */
     uint8_t global;    /* 0x02 global intensity, 4 bits */
-    uint8_t limit;     /* 0x03 scan limit, 3 bits */
-    uint8_t gpio;      /* 0x05 GPIO data, 5 bits */
-    uint8_t ports;     /* 0x06 port configuration */
+    uint8_t limit;     /* 0x03 scan limit, 3 bits: cathodes above it are dark */
+    uint8_t gpio;      /* 0x05 GPIO data, 5 bits, bit k is Pk: what an output gives */
+    uint8_t ports;     /* 0x06 port configuration: key groups in D7 to D5 (4 and above are 4), directions of P4 to P0 below, 1 is input */
     uint8_t test;      /* 0x07 display test, 1 bit */
-    uint8_t types;     /* 0x0C digit type */
+    uint8_t types;     /* 0x0C digit type, bit d for cathode d: 1 is 14 segments, 0 is 16 or a 7-segment pair as fitted has it */
 } max6954_controls;
 
 /* 0x04 configuration: the stored bits, each 0 or 1. */
 typedef struct {
-    uint8_t i;    /* each digit's own intensity */
-    uint8_t e;    /* blinking enabled */
-    uint8_t b;    /* blinking fast */
-    uint8_t s;    /* 0 is shutdown */
+    uint8_t i;    /* D6: each digit's own intensity */
+    uint8_t e;    /* D3: blinking enabled */
+    uint8_t b;    /* D2: blinking fast */
+    uint8_t s;    /* D0: normal operation, 0 is shutdown */
 } max6954_config;
 
-/* Eight keys, a bit for each. */
+/* Eight keys of a group, bit k for key k. */
 typedef struct {
-    uint8_t mask;
-    uint8_t debounced;
-    uint8_t pressed;
-    uint8_t held;
+    uint8_t mask;         /* 0x08 to 0x0B as written: keys that raise the interrupt */
+    uint8_t debounced;    /* 0x08 to 0x0B as read: debounced since it was last read */
+    uint8_t pressed;      /* 0x0C to 0x0F as read: closed in the last scan */
+    uint8_t held;         /* still closed since they were debounced, so not debounced again */
 } max6954_group;
 
+/* Key groups A to D, and the interrupt that they share. */
 typedef struct {
     max6954_group a, b, c, d;
-    uint8_t interrupt;    /* 1 when raised */
+    uint8_t interrupt;    /* 1 when raised, else 0 */
 } max6954_keys;
 
-/* Digits 0 to 7, then 0a to 7a. */
+/* The digit bytes: digits 0 to 7, then 0a to 7a. */
 typedef struct {
-    uint8_t p0[16];
-    uint8_t p1[16];
+    uint8_t p0[16];    /* 0x20 to 0x2F */
+    uint8_t p1[16];    /* 0x40 to 0x4F */
 } max6954_planes;
 
+/* All that the registers hold or show. */
 typedef struct {
     max6954_controls controls;
     max6954_config config;
-    uint8_t intensities[8];    /* 0x10 to 0x17 */
+    uint8_t intensities[8];    /* 0x10 to 0x17: digits 0 and 1, 2 and 3, .. 7, 0a and 1a, .. 7a; the odd one in the high nibble */
     max6954_keys keys;
     max6954_planes planes;
-    uint32_t pins;     /* five pin levels, bit k is Pk */
+    uint32_t pins;     /* levels of the pins P0 to P4, 5 bits, bit k is Pk: what an input reads */
     uint32_t blink;    /* master clocks modulo 4,000,000 */
 } max6954_registers;
 
+/* A driver's record. */
 typedef struct {
     max6954_registers registers;
-    uint16_t shift;     /* the shift word */
-    uint8_t fitted;     /* bit d: cathode d has a pair of 7-segment digits where its digit type is 0 */
+    uint16_t shift;     /* the shift word, D15 to D0: the next access clocks it out */
+    uint8_t fitted;     /* bit d: cathode d has a 7-segment pair where its digit type is 0, else 16 segments; no call changes it */
 } max6954_device;
 
 /* A pin of a segment answer. */
 enum {
-    MAX6954_NOT_DRIVEN = 0,
-    MAX6954_CATHODE = 1,
-    MAX6954_LIT = 2,
-    MAX6954_UNLIT = 3,
-    MAX6954_NO_SEGMENT = 4
+    MAX6954_NOT_DRIVEN = 0,    /* the cathode's partner, or any pin of a cathode that is dark */
+    MAX6954_CATHODE = 1,       /* the cathode itself */
+    MAX6954_LIT = 2,           /* its segment is lit */
+    MAX6954_UNLIT = 3,         /* its segment isn't lit */
+    MAX6954_NO_SEGMENT = 4     /* the display has no segment there */
 };
 
+/* Each answer has its call's number first. */
 typedef struct {
     uint8_t number;
     uint8_t pins[19];    /* O0 to O18; none driven where refused */
@@ -95,7 +101,7 @@ typedef struct {
 
 typedef struct {
     uint8_t number;
-    uint8_t sixteenths;    /* 0 where refused */
+    uint8_t sixteenths;    /* 1 to 15; 0 where refused */
 } max6954_brightness_answer;
 
 typedef struct {
@@ -105,44 +111,47 @@ typedef struct {
 
 typedef struct {
     uint8_t number;
-    uint8_t raised;    /* 1 when raised; 0 where refused */
+    uint8_t raised;    /* 1 when raised, else 0; 0 where refused */
 } max6954_interrupt_answer;
 
-/* A driver at power-up. */
+/* A driver at power-up: in shutdown, every cathode fitted with a 7-segment pair. */
 max6954_device max6954_power_up(void);
 
-/* Clocks through the chain: bits are packed first bit highest. The answer's bytes are written, its spare bits 0; bytes after them stay. Then
-   every driver takes its word, also at 0 clocks. */
+/* Clocks through the chain; bits are packed first bit highest. With 16 clocks for each driver the last driver's word goes first, sent and answered.
+   The answer's bytes are written, spare bits of the last one 0; bytes after them stay. Then every driver takes the word in its shift register,
+   also at 0 clocks. What a read asks for comes out in the next access, never in its own. Gives 3, 4 and 5. */
 uint8_t max6954_access(max6954_device *chain, size_t n, size_t clocks, const uint8_t *sent, size_t sent_length, uint8_t *answer, size_t room);
 
-/* A key scan of one driver: the closed keys of groups A to D. */
+/* A key scan of one driver: the closed keys of groups A to D, bit k for key k. */
 uint8_t max6954_scan(max6954_device *chain, size_t n, size_t driver, uint8_t a, uint8_t b, uint8_t c, uint8_t d);
 
-/* The five pin levels of one driver. */
+/* The five pin levels of one driver, bit k is Pk. Gives 6. */
 uint8_t max6954_set_pins(max6954_device *chain, size_t n, size_t driver, uint32_t levels);
 
-/* Master clocks given to one driver. */
+/* Master clocks given to one driver, any number; accesses give none. */
 uint8_t max6954_add_clocks(max6954_device *chain, size_t n, size_t driver, uint32_t clocks);
 
-/* What a cathode shows under two glyph tables of 128 words, for 14 and for 16 segments. */
+/* What a cathode, 0 to 7, shows under two glyph tables of 128 words, for 14 and for 16 segments; both are lent whichever it uses. D6 to D0 of the
+   digit's byte pick the word, whose bits 15 to 0 are the segments a1 a2 b c d1 d2 e f g1 g2 h i j k l m; of 14 segments, bit 15 is a and bit 11
+   is d. Gives 6. */
 max6954_segment_answer max6954_segments(const max6954_device *chain, size_t n, size_t driver, size_t cathode, const uint16_t *font14,
                                         size_t font14_length, const uint16_t *font16, size_t font16_length);
 
-/* The brightness of a digit, 0 to 7 and then 0a to 7a. */
+/* The brightness of a digit, 0 to 7 and then 8 to 15 for 0a to 7a, dark or not. Gives 6. */
 max6954_brightness_answer max6954_brightness(const max6954_device *chain, size_t n, size_t driver, size_t digit);
 
 /* The plane that a driver shows. */
 max6954_shown_answer max6954_shown(const max6954_device *chain, size_t n, size_t driver);
 
-/* Whether a driver's interrupt is raised. */
+/* Whether a driver's interrupt is raised. Asking doesn't clear it; reading a debounced register does. */
 max6954_interrupt_answer max6954_interrupt(const max6954_device *chain, size_t n, size_t driver);
 
-/* The number of a call of max6954_plane. */
+/* The number of a call of max6954_plane. Gives 6. */
 uint8_t max6954_plane_number(const max6954_device *chain, size_t n, size_t driver, const uint8_t *p0, size_t p0_length, const uint8_t *p1,
                              size_t p1_length, size_t first, size_t last);
 
-/* Digits first to last of the plane that a driver shows, of two lent planes, uncopied: last + 1 - first bytes from the result on, or NULL where
-   refused. */
+/* Digits first to last, both included, of the plane that a driver shows, of two lent planes of 16 digits, uncopied: last + 1 - first bytes from
+   the result on, or NULL where refused. */
 static inline const uint8_t *max6954_plane(const max6954_device *chain, size_t n, size_t driver, const uint8_t *p0, size_t p0_length,
                                            const uint8_t *p1, size_t p1_length, size_t first, size_t last)
 {

@@ -1,14 +1,8 @@
-/* The exported calls from C: bench examples on a chain, and each number with nothing changed. */
+/* The exported calls from C: bench examples on a chain, each number with nothing changed, and what a driver shows. */
 #include <stddef.h>
 #include <stdio.h>
 #include <string.h>
 #include "ratchetelm.h"
-
-_Static_assert(sizeof(max6954_device) == 80, "the record has 80 bytes");
-_Static_assert(offsetof(max6954_registers, config) == 7 && offsetof(max6954_registers, intensities) == 11, "configuration, intensities");
-_Static_assert(offsetof(max6954_registers, keys) == 19 && offsetof(max6954_registers, planes) == 36, "keys, planes");
-_Static_assert(offsetof(max6954_registers, pins) == 68 && offsetof(max6954_registers, blink) == 72, "pin levels, blink count");
-_Static_assert(offsetof(max6954_device, shift) == 76 && offsetof(max6954_device, fitted) == 78, "shift word, fitted byte");
 
 static max6954_device chain[17];
 static uint8_t answer[600];
@@ -43,45 +37,6 @@ static int answered(const char *bytes, size_t count)
     for (size_t i = count; i < sizeof answer; i++)
         kept = kept && answer[i] == 0xEE;
     return kept;
-}
-
-/* A word to driver 1 of 1. */
-static void word(unsigned w)
-{
-    const char bytes[2] = { (char)(w >> 8), (char)w };
-    sent(1, 16, bytes);
-}
-
-static void records_by_name(void)
-{
-    fresh();
-    const max6954_registers *r = &chain[0].registers;
-    int up = r->controls.decode == 255 && r->controls.global == 0 && r->controls.limit == 7 && r->controls.gpio == 0;
-    up = up && r->controls.ports == 31 && r->controls.test == 0 && r->controls.types == 0 && chain[0].fitted == 255 && chain[0].shift == 0;
-    for (int i = 0; i < 16; i++)
-        up = up && r->planes.p0[i] == (i < 8 ? 32 : 0) && r->planes.p1[i] == (i < 8 ? 32 : 0);
-    holds("the power-up record, field by field", up);
-    word(0x0111), word(0x0202), word(0x0303), word(0x0515), word(0x0676), word(0x0701), word(0x0C88);
-    int controls = r->controls.decode == 0x11 && r->controls.global == 2 && r->controls.limit == 3 && r->controls.gpio == 0x15;
-    holds("control registers by name", controls && r->controls.ports == 0x76 && r->controls.test == 1 && r->controls.types == 0x88);
-    int bits = (word(0x0440), r->config.i == 1 && r->config.e + r->config.b + r->config.s == 0);
-    bits = bits && (word(0x0408), r->config.e == 1 && r->config.i + r->config.b + r->config.s == 0);
-    bits = bits && (word(0x0404), r->config.b == 1 && r->config.i + r->config.e + r->config.s == 0);
-    holds("configuration bits by name", bits && (word(0x0401), r->config.s == 1 && r->config.i + r->config.e + r->config.b == 0));
-    int arrays = 1;
-    for (unsigned i = 0; i < 8; i++)
-        word(0x1000 + 0x100 * i + 0x30 + i), arrays = arrays && r->intensities[i] == 0x30 + i;
-    for (unsigned i = 0; i < 16; i++)
-        word(0x2000 + 0x100 * i + 0x60 + i), word(0x4000 + 0x100 * i + 0x80 + i), arrays = arrays && r->planes.p0[i] == 0x60 + i && r->planes.p1[i] == 0x80 + i;
-    holds("intensities and both planes by name", arrays);
-    word(0x0680), word(0x0801), word(0x0902), word(0x0A04), word(0x0B08);
-    int keys = r->keys.a.mask == 1 && r->keys.b.mask == 2 && r->keys.c.mask == 4 && r->keys.d.mask == 8;
-    keys = keys && max6954_scan(chain, 1, 1, 0x10, 0x20, 0x40, 0x80) == 0 && r->keys.a.pressed == 0x10 && r->keys.b.pressed == 0x20;
-    keys = keys && r->keys.c.pressed == 0x40 && r->keys.d.pressed == 0x80 && r->keys.a.held == 0 && r->keys.a.debounced == 0;
-    keys = keys && max6954_scan(chain, 1, 1, 0x10, 0x20, 0, 0x80) == 0 && r->keys.a.held == 0x10 && r->keys.b.debounced == 0x20;
-    holds("key groups by name", keys && r->keys.c.held == 0 && r->keys.d.held == 0x80 && r->keys.interrupt == 0);
-    int rest = max6954_set_pins(chain, 1, 1, 21) == 0 && r->pins == 21;
-    holds("pin levels and blink count by name", rest && max6954_add_clocks(chain, 1, 1, 4000007) == 0 && r->blink == 7);
 }
 
 static void examples(void)
@@ -197,7 +152,6 @@ static void questions(void)
 
 int main(void)
 {
-    records_by_name();
     examples();
     refusals();
     questions();

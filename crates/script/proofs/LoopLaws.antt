@@ -1,0 +1,157 @@
+-- One record of a run: its line, and what the others then print.
+-- Assumes nothing.
+use Prim.Native.Nat.{ℕ, _+_, _*_, _-_, _≤_, _<_}
+use native.Mathlib.Omega.{arith}
+use mathlib.Core.Bool.{true, false}
+use mathlib.Core.List.{List, [], _∷_, _++_}
+use mathlib.Core.Path.{_≡_, refl, ap, _∙_}
+use lib.ListN.{length, take, drop, length-drop, length-replicate, drop-of-length-le}
+use lib.Seq.{length-take-le, drop-drop}
+use borrow.Author.Tests.{eq-eqb, ne-eqb}
+use Rattle.words.specs.Choice.{if}
+use Rattle.device.specs.declared.Device.{Device}
+use Rattle.calls.specs.Calls.{Call}
+use Rattle.calls.specs.Served.{after}
+use Rattle.row.specs.Row.{fresh, records, doneOn}
+use Rattle.row.specs.declared.Row.{Row}
+use Rattle.script.specs.Lines.{refusalLine}
+use Rattle.script.specs.Format.{kindOf, bodyLength, sizeOf, bodyOf, lengthFits, wellFormed, callOf, Item, chain, call, malformed, itemAt, itemsAfter, items}
+use Rattle.script.specs.Script.{freshChain, callLine, runLines}
+use Rattle.script.specs.Run.{lineOn, Written, Obeyed}
+use Rattle.script.specs.declared.Progress.{Progress}
+use Rattle.script.proofs.RoomLaws.{written-length, Left, all-written, part-written}
+use Rattle.script.proofs.FormatLaws.{items-first, size-zero, size-says, fits}
+use Rattle.script.proofs.RunLaws.{to-end, line-on, records-after, row-wide, fresh-records}
+
+module _ (s : List ℕ) (ds : List Device) (h : 0 < length s) where
+  -- a malformed record is refused with 8, and the run stops
+  pub malformed-lines : wellFormed s ≡ false → runLines (items s) ds ≡ refusalLine 8
+  unfolding runLines
+  malformed-lines e = rw (items-first s h, e)
+
+  -- so is a chain record that isn't first
+  pub chain-lines : wellFormed s ≡ true → kindOf s ≡ 1 → runLines (items s) ds ≡ refusalLine 8
+  unfolding runLines
+  chain-lines e k = rw (items-first s h, e, eq-eqb (kindOf s) 1 k)
+
+  -- any other prints its line, and the rest follows on what it leaves
+  pub call-lines : wellFormed s ≡ true → (kindOf s ≡ 1 → ⊥)
+      → runLines (items s) ds ≡ callLine (callOf (kindOf s) (bodyOf s)) ds ++ runLines (items (drop (sizeOf s) s)) (after (callOf (kindOf s) (bodyOf s)) ds)
+  unfolding runLines
+  call-lines e k = rw (items-first s h, e, ne-eqb (kindOf s) 1 k)
+
+-- where a run stands: what is left to print is what the records from there on print on the row as it is
+pub record Running (script : List ℕ) (start n first : ℕ) (out₀ out : List ℕ) (row : Row) (from at : ℕ) : Type 0 where
+  pub within : from ≤ length script
+  pub same-room : length out ≡ length out₀
+  pub space : at + 4 * (length script - from) ≤ length out₀
+  pub wide : row .n ≤ length (row .devices)
+  pub left : Left (runLines (items (drop start script)) (freshChain n)) first out₀ (runLines (items (drop from script)) (records row)) at out
+
+-- before the first record
+pub run-starts : (script : List ℕ) (start n first : ℕ) (out : List ℕ) (row : Row) → start ≤ length script → first + 4 * (length script - start) ≤ length out
+    → n ≤ 16 → row ≡ fresh n → Running script start n first out out row start first
+run-starts script start n first out row h g k e =
+    record {
+      within = h;
+      same-room = refl;
+      space = g;
+      wide = rw e (simp length-replicate k);
+      left = rw (e, fresh-records n k) (record { bytes = refl; end = refl });
+    }
+
+-- the bytes of a script from a place on, and a record's body among them, as parts
+abbrev pub restOf : List ℕ → ℕ → List ℕ
+restOf script from = take (length script - from) (drop from script)
+
+abbrev pub partOf : List ℕ → ℕ → ℕ → List ℕ
+partOf script from size = take (size - 5) (drop 5 (restOf script from))
+
+-- the kind of the first record of the rest
+pub same-kind : (script : List ℕ) (from kind : ℕ) → kind ≡ kindOf (restOf script from) → kind ≡ kindOf (drop from script)
+same-kind script from kind k = rw (to-end from script) at k
+
+-- the size of a record that is malformed
+pub not-found : (script : List ℕ) (from size : ℕ) → size ≡ if (wellFormed (restOf script from)) (sizeOf (restOf script from)) 0 → size ≡ 0
+    → wellFormed (drop from script) ≡ false
+not-found script from size e z = size-zero _ (bodyLength (drop from script)) size (rw (to-end from script) at e) z
+
+-- the size of one that isn't
+module _ (script : List ℕ) (from size : ℕ) (e : size ≡ if (wellFormed (restOf script from)) (sizeOf (restOf script from)) 0) (z : size ≡ 0 → ⊥) where
+  says : (wellFormed (drop from script) ≡ true) × (size ≡ sizeOf (drop from script))
+  says = size-says _ (bodyLength (drop from script)) size (rw (to-end from script) at e) z
+
+  pub well-formed : wellFormed (drop from script) ≡ true
+  well-formed = says .0
+
+  pub exact : size ≡ sizeOf (drop from script)
+  exact = says .1
+
+  pub five : 5 ≤ size
+  five = omega (arith, exact)
+
+  pub rest-whole : size ≤ length (restOf script from)
+  rest-whole = rw (to-end from script) (omega (arith, exact, fits (drop from script) well-formed .whole))
+
+  pub whole : from + size ≤ length script
+  whole = omega (arith, five, exact, fits (drop from script) well-formed .whole, length-drop from script)
+
+  part-body : partOf script from size ≡ bodyOf (drop from script)
+  part-body = let k : size - 5 ≡ bodyLength (drop from script) = omega (arith, exact) in rw (to-end from script, k)
+
+  pub part-length : 5 + length (partOf script from size) ≡ size
+  part-length =
+      let s = drop from script in
+      let f = fits s well-formed .whole in
+      let l : length (bodyOf s) ≡ bodyLength s = length-take-le (bodyLength s) (drop 5 s) (rw length-drop (omega arith)) in
+      rw part-body (omega (arith, exact, l))
+
+  pub part-fits : (kind : ℕ) → kind ≡ kindOf (restOf script from) → lengthFits kind (length (partOf script from size)) ≡ true
+  part-fits kind k =
+      let l : length (partOf script from size) ≡ bodyLength (drop from script) = omega (arith, part-length, exact) in
+      rw (l, k, to-end from script) (fits (drop from script) well-formed .body-fits)
+
+  pub record-obeyed : (row : Row) (kind at : ℕ) (out out′ : List ℕ) (p : Progress) → kind ≡ kindOf (restOf script from)
+      → Obeyed row (callOf kind (partOf script from size)) (5 + length (partOf script from size)) at out out′ p
+      → Obeyed row (callOf (kindOf (drop from script)) (bodyOf (drop from script))) size at out out′ p
+  record-obeyed row kind at out out′ p k o = rw (part-length, part-body, k, to-end from script) at o
+
+module _ (script : List ℕ) (start n first : ℕ) (out₀ out : List ℕ) (row : Row) (from at : ℕ) (g : Running script start n first out₀ out row from at)
+    (h : from < length script) where
+  -- some bytes are left
+  pub rest-some : 0 < length (drop from script)
+  rest-some = rw length-drop (omega arith)
+
+  -- the run stops at a record that prints a refusal
+  pub run-stops : (out′ : List ℕ) (at′ : ℕ) → runLines (items (drop from script)) (records row) ≡ refusalLine 8
+      → Written (refusalLine 8) at out out′ at′ → Written (runLines (items (drop start script)) (freshChain n)) first out₀ out′ at′ × (at′ ≤ length out₀)
+  run-stops out′ at′ e w = (all-written _ _ _ _ _ (part-written _ _ _ (refusalLine 8) [] _ _ _ _ (rw e at (g .left)) w), omega (arith, g .space, w .place))
+
+  -- a record is obeyed, and the run goes on after it
+  pub run-goes-on : (out′ : List ℕ) (p : Progress) → wellFormed (drop from script) ≡ true → (kindOf (drop from script) ≡ 1 → ⊥)
+      → (size : ℕ) → size ≡ sizeOf (drop from script)
+      → Obeyed row (callOf (kindOf (drop from script)) (bodyOf (drop from script))) size at out out′ p
+      → Running script start n first out₀ out′ (p .row) (from + size) (p .at)
+  run-goes-on out′ p t k size z o =
+      let s = drop from script in
+      let q = callOf (kindOf s) (bodyOf s) in
+      let f = fits s t in
+      let l = length-drop from script in
+      record {
+        within = omega (arith, f .whole, l, z);
+        same-room = written-length _ _ _ _ _ (o .line) ∙ g .same-room;
+        space = omega (arith, f .whole, l, z, o .short, g .space);
+        wide = rw (o .row-after) (row-wide row (g .wide) q);
+        left =
+            rw (o .row-after, records-after row (g .wide) q, z, ← drop-drop (sizeOf s) from script)
+            (part-written _ _ _ (lineOn row q) _ _ _ _ _
+            (rw (call-lines s (records row) rest-some t k, ← line-on row (g .wide) q) at (g .left))
+            (o .line));
+      }
+
+-- the run ends with the script
+pub run-ends : (script : List ℕ) (start n first : ℕ) (out₀ out : List ℕ) (row : Row) (from at : ℕ) → Running script start n first out₀ out row from at
+    → length script ≤ from → Written (runLines (items (drop start script)) (freshChain n)) first out₀ out at × (at ≤ length out₀)
+unfolding itemsAfter runLines
+run-ends script start n first out₀ out row from at g h =
+    (all-written _ _ _ _ _ (rw (drop-of-length-le script {i = from} h) at (g .left)), omega (arith, g .space))

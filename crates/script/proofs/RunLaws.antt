@@ -1,0 +1,142 @@
+-- The calls on a row by value, as the calls on the chain of its records.
+-- Assumes nothing.
+use Prim.Native.Nat.{ℕ, zero, suc, _+_, _-_, _*_, _≤_, _<_}
+use native.Mathlib.Omega.{arith}
+use native.Mathlib.Nat.{le-of-suc-le-suc}
+use mathlib.Core.Bool.{Bool, true, false}
+use mathlib.Core.List.{List, [], _∷_, _++_}
+use mathlib.Core.Path.{_≡_, refl, sym, ap, _∙_}
+use lib.Dec.{eqb}
+use lib.ListN.{length, take, drop, replicate, length-append, length-take, length-drop, take-append-drop}
+use lib.Seq.{length-take-le, take-all, take-at}
+use borrow.Author.Tests.{ne-eqb}
+use Rattle.words.specs.Choice.{if}
+use Rattle.wire.specs.Bits.{bytesFor}
+use Rattle.wire.proofs.SizeLaws.{served as sizes-fit}
+use Rattle.device.specs.PowerUp.{powerUp}
+use Rattle.device.specs.declared.Device.{Device}
+use Rattle.calls.specs.Calls.{Step, Question, Call, access, give, ask}
+use Rattle.calls.specs.Numbers.{allSound}
+use Rattle.calls.specs.Served.{numberAt, afterAt, after}
+use Rattle.calls.proofs.Accepted.{zero-says}
+use Rattle.calls.proofs.Records.{length-after}
+use Rattle.row.specs.Row.{fresh, records, numberOn, replyOn, doneOn}
+use Rattle.row.specs.declared.Row.{Row}
+use Rattle.row.specs.declared.Done.{Done}
+use Rattle.script.specs.Lines.{each, hexByte, pinText, answerLine, showLine, refusalLine, lineFor}
+use Rattle.script.specs.Script.{freshChain, callLine}
+use Rattle.script.specs.Run.{lineOn, Written, Given, Obeyed}
+use Rattle.script.specs.declared.Progress.{Progress}
+use Rattle.script.proofs.RoomLaws.{length-each}
+
+-- a part of some bytes to their end
+pub to-end : (k : ℕ) (l : List ℕ) → take (length l - k) (drop k l) ≡ drop k l
+to-end k l = take-all (length l - k) (drop k l) (rw length-drop (omega arith))
+
+-- an access that is served has at most 4,096 clocks, and bytes for them
+pub access-fits : (r : Row) (c : ℕ) (sent room : List ℕ) → numberOn r (access c sent room) ≡ 0 → (c ≤ 4096) × (bytesFor c ≤ length sent)
+unfolding numberAt
+access-fits r c sent room z =
+    let f = sizes-fit c (length sent) (length room) (zero-says (r .n) (allSound (records r)) (access c sent room) z .bytes) in
+    (f .0, f .1)
+
+-- a question leaves the row as it is
+pub ask-leaves : (r : Row) (j : ℕ) (q : Question) → doneOn r (ask j q) .row ≡ r
+unfolding afterAt
+ask-leaves r j q = go (eqb (numberAt (r .n) (ask j q) (records r)) 0)
+  where
+    go : (b : Bool) → _≡_ {A = Row} (record { n = r .n; devices = if b (records r) (records r) ++ drop (r .n) (r .devices) }) r
+    go true = rw take-append-drop
+    go false = rw take-append-drop
+
+module _ (r : Row) (small : r .n ≤ length (r .devices)) where
+  length-records : length (records r) ≡ r .n
+  length-records = length-take-le (r .n) (r .devices) small
+
+  -- what a call prints is what it prints on the chain
+  pub line-on : (q : Call) → lineOn r q ≡ callLine q (records r)
+  line-on q = rw length-records
+
+  -- the chain after it
+  pub records-after : (q : Call) → records (doneOn r q .row) ≡ after q (records r)
+  records-after q = rw length-records (take-at (afterAt (r .n) q (records r)) (drop (r .n) (r .devices)) (r .n) (rw length-records at (length-after q (records r))))
+
+  -- and it has as many records as before
+  pub row-wide : (q : Call) → doneOn r q .row .n ≤ length (doneOn r q .row .devices)
+  row-wide q =
+      let l : length (afterAt (r .n) q (records r)) ≡ r .n = rw length-records at (length-after q (records r)) in
+      rw (length-append, l) (omega arith)
+
+-- a row at power-up
+pub fresh-records : (n : ℕ) → n ≤ 16 → records (fresh n) ≡ freshChain n
+fresh-records n h = go n 16 h
+  where
+    go : (n m : ℕ) → n ≤ m → take n (replicate m powerUp) ≡ replicate n powerUp
+    go zero m h = refl
+    go (suc n) zero h = absurd (omega arith)
+    go (suc n) (suc m) h = ap (λ (ds : List Device). powerUp ∷ ds) (go n m (le-of-suc-le-suc h))
+
+-- a refused call of any kind prints its number
+refused-line : (q : Call) (number : ℕ) (back : List ℕ) → (number ≡ 0 → ⊥) → lineFor q number back ≡ refusalLine number
+refused-line (access c sent room) number back h = rw (ne-eqb number 0 h)
+refused-line (give j s) number back h = rw (ne-eqb number 0 h)
+refused-line (ask j q) number back h = rw (ne-eqb number 0 h)
+
+-- an answer's line
+answer-length : (bs : List ℕ) → length (answerLine bs) ≤ 3 + 2 * length bs
+answer-length [] = omega arith
+answer-length (b ∷ bs) = simp length-append (omega (arith, length-each hexByte 2 (λ x. refl) (b ∷ bs)))
+
+module _ (r : Row) (q : Call) (size at : ℕ) (out out′ : List ℕ) (done : Done) (e : done ≡ doneOn r q) where
+  same-number : done .number ≡ numberOn r q
+  same-number = rw e
+
+  same-row : done .row ≡ doneOn r q .row
+  same-row = rw e
+
+  -- a call that is refused
+  pub refused : (end : ℕ) → 1 ≤ size → (done .number ≡ 0 → ⊥) → Written (refusalLine (done .number)) at out out′ end
+      → Obeyed r q size at out out′ (record { row = done .row; at = end })
+  refused end h z w =
+      record {
+        row-after = same-row;
+        line = rw (refused-line q (numberOn r q) (replyOn r q) (rw (← same-number) z), ← same-number) w;
+        short = omega (arith, w .place);
+      }
+
+-- an access that is served
+pub answered : (r : Row) (c : ℕ) (sent room : List ℕ) (size at : ℕ) (out out′ back : List ℕ) (done : Done) (end : ℕ)
+    → done ≡ doneOn r (access c sent room) → done .number ≡ 0 → back ≡ replyOn r (access c sent room) → length sent + 7 ≤ size
+    → Written (answerLine (take (bytesFor c) back)) at out out′ end
+    → Obeyed r (access c sent room) size at out out′ (record { row = done .row; at = end })
+answered r c sent room size at out out′ back done end e z b h w =
+    let q = access c sent room in
+    let n : numberOn r q ≡ 0 = sym (same-number r q size at out out′ done e) ∙ z in
+    record {
+      row-after = same-row r q size at out out′ done e;
+      line = rw (n, ← b) w;
+      short =
+          omega (arith, w .place, answer-length (take (bytesFor c) back), length-take (bytesFor c) back, access-fits r c sent room n .1);
+    }
+
+-- a scan, pin levels or clocks
+pub given-obeyed : (r : Row) (j : ℕ) (s : Step) (size at : ℕ) (out out′ : List ℕ) (done : Done) (p : Progress)
+    → done ≡ doneOn r (give j s) → 1 ≤ size → Given done at out out′ p → Obeyed r (give j s) size at out out′ p
+given-obeyed r j s size at out out′ done p e h g =
+    record { row-after = g .row-after ∙ rw e; line = rw e at (g .line); short = omega (arith, g .short) }
+
+-- a question's number, and the row as it was
+pub asked-done : (r : Row) (j : ℕ) (q : Question) (number : ℕ) → number ≡ numberOn r (ask j q) → _≡_ {A = Done} (record { number = number; row = r }) (doneOn r (ask j q))
+asked-done r j q number e = rw (e, ask-leaves r j q)
+
+-- a show that is served
+pub shown-obeyed : (r : Row) (j : ℕ) (q : Question) (size at : ℕ) (out out′ pins : List ℕ) (number end : ℕ)
+    → number ≡ numberOn r (ask j q) → number ≡ 0 → pins ≡ replyOn r (ask j q) → length pins ≡ 19 → 6 ≤ size
+    → Written (showLine pins) at out out′ end → Obeyed r (ask j q) size at out out′ (record { row = r; at = end })
+shown-obeyed r j q size at out out′ pins number end e z b l h w =
+    let n : numberOn r (ask j q) ≡ 0 = sym e ∙ z in
+    record {
+      row-after = sym (ask-leaves r j q);
+      line = rw (n, ← b) w;
+      short = omega (arith, w .place, length-append (each pinText pins) (10 ∷ []), length-each pinText 1 (λ x. refl) pins);
+    }

@@ -1,0 +1,97 @@
+-- Where a run starts, and what a script prints from there.
+-- Assumes nothing.
+use Prim.Native.Nat.{ℕ, _+_, _/_, _≤_, _<_}
+use native.Mathlib.Omega.{arith}
+use mathlib.Core.Bool.{Bool, true, false, _&&_}
+use mathlib.Core.List.{List, [], _∷_, _++_}
+use mathlib.Core.Path.{_≡_, refl}
+use lib.Dec.{ltb}
+use lib.ListN.{length, drop}
+use borrow.Author.Tests.{eq-eqb, ne-eqb, lt-ltb, le-ltb}
+use Rattle.words.specs.Choice.{if}
+use Rattle.script.specs.Lines.{digit, chainLine, refusalLine}
+use Rattle.script.specs.Format.{byte, kindOf, bodyLength, sizeOf, wellFormed, itemsAfter, items}
+use Rattle.script.specs.Script.{freshChain, runLines, assumedChain, itemsPrinted, longest, printed}
+use Rattle.script.specs.Run.{roomFor, ranOf, outAfter, Written, Started}
+use Rattle.script.specs.declared.Ran.{Ran}
+use Rattle.script.specs.declared.Start.{Start}
+use Rattle.script.proofs.RoomLaws.{written-length, whole-written}
+use Rattle.script.proofs.FormatLaws.{items-first, size-zero, size-says, fits}
+
+-- a script that doesn't begin with a chain record
+abbrev pub assumed : Start
+assumed = record { n = assumedChain; from = 0 }
+
+module _ (s : List ℕ) (size : ℕ) (e : size ≡ if (wellFormed s) (sizeOf s) 0) where
+  -- a chain record is first
+  pub starts-after : (size ≡ 0 → ⊥) → kindOf s ≡ 1 → Started s (record { n = byte s 5; from = size })
+  starts-after z k =
+      let t = size-says (wellFormed s) (bodyLength s) size e z in
+      let f = fits s (t .0) in
+      let h : 0 < length s = omega (arith, f .five) in
+      record {
+        chain-length = rw (items-first s h, t .0, eq-eqb (kindOf s) 1 k);
+        others = rw (t .1, items-first s h, t .0, eq-eqb (kindOf s) 1 k);
+        within = omega (arith, t .1, f .whole);
+      }
+
+  -- another record is first
+  pub starts-at-call : (size ≡ 0 → ⊥) → (kindOf s ≡ 1 → ⊥) → Started s assumed
+  starts-at-call z k =
+      let t = size-says (wellFormed s) (bodyLength s) size e z in
+      let h : 0 < length s = omega (arith, fits s (t .0) .five) in
+      record {
+        chain-length = rw (items-first s h, t .0, ne-eqb (kindOf s) 1 k);
+        others = rw (items-first s h, t .0, ne-eqb (kindOf s) 1 k);
+        within = omega arith;
+      }
+
+  -- a malformed record is first, or none
+  pub starts-malformed : size ≡ 0 → Started s assumed
+  unfolding itemsAfter
+  starts-malformed z = go s (size-zero (wellFormed s) (bodyLength s) size e z)
+    where
+      go : (s : List ℕ) → wellFormed s ≡ false → Started s assumed
+      go [] m = record { chain-length = refl; others = refl; within = omega arith }
+      go (b ∷ r) m =
+          let h : 0 < length (b ∷ r) = omega arith in
+          record { chain-length = rw (items-first (b ∷ r) h, m); others = rw (items-first (b ∷ r) h, m); within = omega arith }
+
+-- the chain's line is at most nine bytes long
+pub chain-short : (n : ℕ) → length (chainLine n) ≤ 9
+chain-short n = omega (arith, go (ltb n 10))
+  where
+    go : (b : Bool) → length (if b (digit n ∷ 10 ∷ []) (digit (n / 10) ∷ digit n ∷ 10 ∷ [])) ≤ 3
+    go true = omega arith
+    go false = omega arith
+
+module _ (s : List ℕ) (p : Start) (w : Started s p) where
+  -- a chain of 1 to 16 drivers
+  pub prints-lines : (ltb 0 (p .n) && ltb (p .n) 17) ≡ true
+      → itemsPrinted (items s) ≡ chainLine (p .n) ++ runLines (items (drop (p .from) s)) (freshChain (p .n))
+  prints-lines t = rw (← w .chain-length, t, ← w .others)
+
+  -- a chain refused with 1
+  pub prints-refusal : (ltb 0 (p .n) && ltb (p .n) 17) ≡ false → itemsPrinted (items s) ≡ refusalLine 1
+  prints-refusal t = rw (← w .chain-length, t)
+
+module _ (s out : List ℕ) where
+  -- less room than suffices
+  pub too-little : length out < roomFor (length s) → (_≡_ {A = Ran} (record { number = 5; length = 0 }) (ranOf s out)) × (out ≡ outAfter s out) × (0 ≤ length out)
+  too-little h = (rw (lt-ltb _ _ h), rw (lt-ltb _ _ h), omega arith)
+
+  -- room that suffices, and what is printed in it
+  pub ran : (out′ : List ℕ) (end : ℕ) → roomFor (length s) ≤ length out → Written (printed s) 0 out out′ end → end ≤ length out
+      → (_≡_ {A = Ran} (record { number = 0; length = end }) (ranOf s out)) × (out′ ≡ outAfter s out) × (end ≤ length out′)
+  ran out′ end h w l =
+      let e : end ≡ length (printed s) = omega (arith, w .place) in
+      (rw (le-ltb _ _ h, e), rw (le-ltb _ _ h) (whole-written _ _ _ _ w l), omega (arith, written-length _ _ _ _ _ w))
+
+-- a script that is too long, and one that isn't
+pub printed-long : (s : List ℕ) → longest < length s → printed s ≡ refusalLine 9
+unfolding printed
+printed-long s h = rw (lt-ltb _ _ h)
+
+pub printed-items : (s : List ℕ) → length s ≤ longest → printed s ≡ itemsPrinted (items s)
+unfolding printed
+printed-items s h = rw (le-ltb _ _ h)

@@ -1,0 +1,12 @@
+-- `script::format::test_table` meets its contract. Assumes nothing.
+use mathlib.Core.Path.{refl}
+use Rattle.words.specs.Lists.{tabulate}
+use Rattle.script.proofs.format.test_table.Statement.{statement}
+use Rattle.script.proofs.format.test_table.Tie as tie
+
+returns : tie.Need-returns
+unfolding tabulate
+returns c = refl
+
+pub test-table-spec : {M : Type 1} → statement M
+test-table-spec = tie.close (tie.spec returns)

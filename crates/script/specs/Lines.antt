@@ -1,0 +1,59 @@
+-- Document 01, "Script program": the lines that the panel program prints, as bytes (ASCII). Each ends with a newline.
+-- Assumes nothing.
+use Prim.Native.Nat.{ℕ, _+_, _/_, _%_}
+use mathlib.Core.List.{List, [], _∷_, _++_}
+use lib.Dec.{eqb, ltb}
+use lib.ListN.{take}
+use Rattle.words.specs.Choice.{if}
+use Rattle.wire.specs.Bits.{bytesFor}
+use Rattle.display.specs.Pins.{pinNumber}
+use Rattle.display.specs.declared.Pin.the-variants.{Cathode, Lit, Unlit}
+use Rattle.calls.specs.Calls.{Call, access, give, ask}
+
+-- the text of each element, one after another
+unfoldable pub each : (ℕ → List ℕ) → List ℕ → List ℕ
+each f [] = []
+each f (x ∷ xs) = f x ++ each f xs
+
+-- a digit, 0 to 9
+abbrev pub digit : ℕ → ℕ
+digit v = 48 + v % 10
+
+-- `chain n`, in decimal
+abbrev pub chainLine : ℕ → List ℕ
+chainLine n = 99 ∷ 104 ∷ 97 ∷ 105 ∷ 110 ∷ 32 ∷ if (ltb n 10) (digit n ∷ 10 ∷ []) (digit (n / 10) ∷ digit n ∷ 10 ∷ [])
+
+-- `R` and its number, for a refusal; the numbers are 1 to 9
+abbrev pub refusalLine : ℕ → List ℕ
+refusalLine n = 82 ∷ 32 ∷ digit n ∷ 10 ∷ []
+
+-- upper-case hex
+abbrev pub hexDigit : ℕ → ℕ
+hexDigit v = if (ltb v 10) (48 + v) (55 + v)
+
+-- in whole bytes
+abbrev pub hexByte : ℕ → List ℕ
+hexByte b = hexDigit (b / 16) ∷ hexDigit (b % 16) ∷ []
+
+-- `A` and the answer; `A` alone for 0 clocks
+abbrev pub answerLine : List ℕ → List ℕ
+answerLine [] = 65 ∷ 10 ∷ []
+answerLine (b ∷ bs) = 65 ∷ 32 ∷ each hexByte (b ∷ bs) ++ 10 ∷ []
+
+-- a pin's letter: `C` cathode, `1` lit, `0` unlit, `-` not driven or carrying none
+abbrev pub letter : ℕ → ℕ
+letter p = if (eqb p (pinNumber Cathode)) 67 (if (eqb p (pinNumber Lit)) 49 (if (eqb p (pinNumber Unlit)) 48 45))
+
+-- the same, as a text
+abbrev pub pinText : ℕ → List ℕ
+pinText p = letter p ∷ []
+
+-- `S` and 19 letters, O0 first
+abbrev pub showLine : List ℕ → List ℕ
+showLine pins = 83 ∷ 32 ∷ each pinText pins ++ 10 ∷ []
+
+-- what a call prints, by its number and what it gave back: served scans, pin levels and clocks print nothing
+abbrev pub lineFor : Call → ℕ → List ℕ → List ℕ
+lineFor (access c sent room) number back = if (eqb number 0) (answerLine (take (bytesFor c) back)) (refusalLine number)
+lineFor (give j s) number back = if (eqb number 0) [] (refusalLine number)
+lineFor (ask j q) number back = if (eqb number 0) (showLine back) (refusalLine number)

@@ -1,0 +1,62 @@
+-- Document 01, "Script program": what the panel program prints for a script.
+-- Assumes nothing.
+use Prim.Native.Nat.{ℕ}
+use mathlib.Core.List.{List, [], _∷_, _++_}
+use lib.Dec.{eqb, ltb}
+use lib.ListN.{length, replicate}
+use Rattle.words.specs.Choice.{if}
+use Rattle.device.specs.PowerUp.{powerUp}
+use Rattle.device.specs.declared.Device.{Device}
+use Rattle.calls.specs.Calls.{Call}
+use Rattle.calls.specs.Numbers.{chainNumber}
+use Rattle.calls.specs.Served.{number, after, reply}
+use Rattle.script.specs.Lines.{chainLine, refusalLine, lineFor}
+use Rattle.script.specs.Format.{Item, chain, call, malformed, items}
+
+-- records start at power-up
+abbrev pub freshChain : ℕ → List Device
+freshChain n = replicate n powerUp
+
+-- what a call on a chain prints
+abbrev pub callLine : Call → List Device → List ℕ
+callLine q ds = lineFor q (number q ds) (reply q ds)
+
+-- what records print on a chain; a malformed record, and a chain record that isn't first, are refused with 8, and the run stops
+unfoldable pub runLines : List Item → List Device → List ℕ
+runLines [] ds = []
+runLines (chain n ∷ is) ds = refusalLine 8
+runLines (call q ∷ is) ds = callLine q ds ++ runLines is (after q ds)
+runLines (malformed ∷ is) ds = refusalLine 8
+
+-- the chain of a script that doesn't begin with a chain record, or whose first record is refused with 8
+abbrev pub assumedChain : ℕ
+assumedChain = 1
+
+-- the chain's length
+abbrev pub chainIn : List Item → ℕ
+chainIn [] = assumedChain
+chainIn (chain n ∷ is) = n
+chainIn (call q ∷ is) = assumedChain
+chainIn (malformed ∷ is) = assumedChain
+
+-- the records after a chain record that is first
+abbrev pub othersIn : List Item → List Item
+othersIn [] = []
+othersIn (chain n ∷ is) = is
+othersIn (call q ∷ is) = call q ∷ is
+othersIn (malformed ∷ is) = malformed ∷ is
+
+-- `chain n` and what the other records print; a chain record refused with 1 precludes the first line, and the run stops
+abbrev pub itemsPrinted : List Item → List ℕ
+itemsPrinted is =
+    if (eqb (chainNumber (chainIn is)) 0)
+    (chainLine (chainIn is) ++ runLines (othersIn is) (freshChain (chainIn is)))
+    (refusalLine (chainNumber (chainIn is)))
+
+-- the longest script
+abbrev pub longest : ℕ
+longest = 65536
+
+-- all that is printed; length (9) is tested before anything else, and precludes the first line
+unfoldable pub printed : List ℕ → List ℕ
+printed s = if (ltb longest (length s)) (refusalLine 9) (itemsPrinted (items s))

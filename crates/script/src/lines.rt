@@ -1,0 +1,128 @@
+// The lines that a run prints, written into lent room from a place on. Each function gives back the place after its line.
+ghost use Prim.Native.Nat.{_+_, _*_, _<_, _≤_};
+ghost use mathlib.Core.Path.{_≡_};
+ghost use mathlib.Core.List.{[], _∷_};
+ghost use lib.ListN.{length};
+ghost use Rattle.script.specs.Lines.{digit as digitOf, chainLine, refusalLine, hexDigit, hexByte, pinText, each, answerLine, letter as letterOf, showLine};
+ghost use Rattle.script.specs.Run.{Written};
+
+// A decimal digit, the last of v.
+fn digit(v: usize) -> u8
+    ensures { λ r. ⌜ r ≡ digitOf v ⌝ }
+{
+    (48 + v % 10) as u8
+}
+
+// `chain n`.
+pub(crate) fn chain_line(n: usize, out: &mut [u8], at: usize) -> usize
+    requires { ⌜ at + 9 ≤ length (now out) ⌝ }
+    ensures { λ r. ⌜ Written (chainLine n) at (now (out .entry)) (now (out .exit)) r ⌝ }
+{
+    out[at] = b'c';
+    out[at + 1] = b'h';
+    out[at + 2] = b'a';
+    out[at + 3] = b'i';
+    out[at + 4] = b'n';
+    out[at + 5] = b' ';
+    if n < 10 {
+        out[at + 6] = digit(n);
+        out[at + 7] = b'\n';
+        return at + 8;
+    }
+    out[at + 6] = digit(n / 10);
+    out[at + 7] = digit(n);
+    out[at + 8] = b'\n';
+    at + 9
+}
+
+// `R` and a number below 10.
+pub(crate) fn refusal_line(number: u8, out: &mut [u8], at: usize) -> usize
+    requires { ⌜ at + 4 ≤ length (now out) ⌝ }
+    ensures { λ r. ⌜ Written (refusalLine number) at (now (out .entry)) (now (out .exit)) r ⌝ }
+{
+    out[at] = b'R';
+    out[at + 1] = b' ';
+    out[at + 2] = digit(number as usize);
+    out[at + 3] = b'\n';
+    at + 4
+}
+
+// An upper-case hex digit.
+fn hex_digit(v: u8) -> u8
+    requires { ⌜ v < 16 ⌝ }
+    ensures { λ r. ⌜ r ≡ hexDigit v ⌝ }
+{
+    if v < 10 { 48 + v } else { 55 + v }
+}
+
+// Bytes in hex.
+fn hex_bytes(bytes: &[u8], out: &mut [u8], at: usize) -> usize
+    requires { ⌜ at + 2 * length (now bytes) ≤ length (now out) ⌝ }
+    ensures { λ r. ⌜ Written (each hexByte (now (bytes .entry))) at (now (out .entry)) (now (out .exit)) r ⌝ }
+{
+    let mut place = at;
+    let mut i = 0;
+    while i < bytes.len() {
+        let b = bytes[i];
+        out[place] = hex_digit(b / 16);
+        out[place + 1] = hex_digit(b % 16);
+        place += 2;
+        i += 1;
+    }
+    place
+}
+
+// `A` and the answer's bytes.
+pub(crate) fn answer_line(bytes: &[u8], out: &mut [u8], at: usize) -> usize
+    requires { ⌜ at + 2 * length (now bytes) + 3 ≤ length (now out) ⌝ }
+    ensures { λ r. ⌜ Written (answerLine (now (bytes .entry))) at (now (out .entry)) (now (out .exit)) r ⌝ }
+{
+    out[at] = b'A';
+    if bytes.len() == 0 {
+        out[at + 1] = b'\n';
+        return at + 2;
+    }
+    out[at + 1] = b' ';
+    let end = hex_bytes(bytes, out, at + 2);
+    out[end] = b'\n';
+    end + 1
+}
+
+// A pin's letter.
+fn letter(pin: u8) -> u8
+    ensures { λ r. ⌜ r ≡ letterOf pin ⌝ }
+{
+    match pin {
+        1 => b'C',
+        2 => b'1',
+        3 => b'0',
+        _ => b'-',
+    }
+}
+
+// The letters of nineteen pins.
+fn letters(pins: [u8; 19], out: &mut [u8], at: usize) -> usize
+    requires { ⌜ at + 19 ≤ length (now out) ⌝ }
+    ensures { λ r. ⌜ Written (each pinText pins) at (now (out .entry)) (now (out .exit)) r ⌝ }
+{
+    let mut place = at;
+    let mut p = 0;
+    while p < 19 {
+        out[place] = letter(pins[p]);
+        place += 1;
+        p += 1;
+    }
+    place
+}
+
+// `S` and the letters of nineteen pins.
+pub(crate) fn show_line(pins: [u8; 19], out: &mut [u8], at: usize) -> usize
+    requires { ⌜ at + 22 ≤ length (now out) ⌝ }
+    ensures { λ r. ⌜ Written (showLine pins) at (now (out .entry)) (now (out .exit)) r ⌝ }
+{
+    out[at] = b'S';
+    out[at + 1] = b' ';
+    let end = letters(pins, out, at + 2);
+    out[end] = b'\n';
+    end + 1
+}

@@ -1,0 +1,197 @@
+//! A bench double of a chain of MAX6954 LED display drivers, proved in Rattle.
+//!
+//! A chain is any slice of 1 to 16 [`Device`] records, nearest the controller first. Drivers are counted from 1. A call is
+//! served, or refused with the lowest [`Refusal`] that applies; then no record and no lent byte has changed.
+//!
+//! ```
+//! use ratchetelm::{access, Device, Refusal};
+//!
+//! let mut chain = [Device::power_up(); 2];
+//! let mut answer = [0; 4];
+//!
+//! // With 16 clocks for each driver the last driver's word goes first: driver 2 takes 0000, driver 1 takes 0303.
+//! access(&mut chain, 32, &[0x00, 0x00, 0x03, 0x03], &mut answer)?;
+//! assert_eq!(chain[0].registers.controls.limit, 3);
+//!
+//! // Driver 1 is asked for its scan limit. What comes out in this access is the word that it took before.
+//! access(&mut chain, 32, &[0x00, 0x00, 0x83, 0x00], &mut answer)?;
+//! assert_eq!(answer, [0x00, 0x00, 0x03, 0x03]);
+//!
+//! // The read's answer comes out one access later.
+//! access(&mut chain, 32, &[0; 4], &mut answer)?;
+//! assert_eq!(answer, [0x00, 0x00, 0x83, 0x03]);
+//!
+//! assert_eq!(access(&mut chain, 32, &[0; 3], &mut answer), Err(Refusal::SentTooShort));
+//! # Ok::<(), Refusal>(())
+//! ```
+
+mod records;
+mod refusal;
+mod sys;
+
+pub use records::{Config, Controls, Device, Group, Keys, Planes, Registers};
+pub use refusal::Refusal;
+
+/// A pin of a cathode, O0 to O18; as a number it is the one that C has.
+#[derive(Clone, Copy, Debug, PartialEq, Eq)]
+pub enum Pin {
+    /// The cathode's partner, or any pin of a cathode that is dark.
+    NotDriven = 0,
+    /// The cathode itself.
+    Cathode = 1,
+    /// Its segment is lit.
+    Lit = 2,
+    /// Its segment isn't lit.
+    Unlit = 3,
+    /// The display has no segment there.
+    NoSegment = 4,
+}
+
+impl Pin {
+    const BY_NUMBER: [Pin; 5] = [
+        Pin::NotDriven,
+        Pin::Cathode,
+        Pin::Lit,
+        Pin::Unlit,
+        Pin::NoSegment,
+    ];
+}
+
+/// A digit plane; as a number it is the one that C has.
+#[derive(Clone, Copy, Debug, PartialEq, Eq)]
+pub enum Plane {
+    P0 = 0,
+    P1 = 1,
+}
+
+/// Clocks through the chain; bits are packed first bit highest. The answer's bytes are written, spare bits of the last one 0;
+/// bytes after them stay. Then every driver takes the word in its shift register, also at 0 clocks.
+pub fn access(
+    chain: &mut [Device],
+    clocks: usize,
+    sent: &[u8],
+    answer: &mut [u8],
+) -> Result<(), Refusal> {
+    let (n, sent_length, room) = (chain.len(), sent.len(), answer.len());
+    // SAFETY: each pointer has the length of its slice, and the two that are written are borrowed exclusively.
+    Refusal::of(unsafe {
+        sys::max6954_access(
+            chain.as_mut_ptr(),
+            n,
+            clocks,
+            sent.as_ptr(),
+            sent_length,
+            answer.as_mut_ptr(),
+            room,
+        )
+    })
+}
+
+/// A key scan of one driver: the closed keys of groups A to D, bit k for key k.
+pub fn scan(chain: &mut [Device], driver: usize, keys: [u8; 4]) -> Result<(), Refusal> {
+    let [a, b, c, d] = keys;
+    let n = chain.len();
+    // SAFETY: the pointer has the length of its slice, which is borrowed exclusively.
+    Refusal::of(unsafe { sys::max6954_scan(chain.as_mut_ptr(), n, driver, a, b, c, d) })
+}
+
+/// The five pin levels of one driver, bit k is Pk.
+pub fn set_pins(chain: &mut [Device], driver: usize, levels: u32) -> Result<(), Refusal> {
+    let n = chain.len();
+    // SAFETY: the pointer has the length of its slice, which is borrowed exclusively.
+    Refusal::of(unsafe { sys::max6954_set_pins(chain.as_mut_ptr(), n, driver, levels) })
+}
+
+/// Master clocks given to one driver, any number; accesses give none.
+pub fn add_clocks(chain: &mut [Device], driver: usize, clocks: u32) -> Result<(), Refusal> {
+    let n = chain.len();
+    // SAFETY: the pointer has the length of its slice, which is borrowed exclusively.
+    Refusal::of(unsafe { sys::max6954_add_clocks(chain.as_mut_ptr(), n, driver, clocks) })
+}
+
+/// Digits first to last, both included, of the plane that a driver shows, of two lent planes of 16 digits, uncopied.
+pub fn plane<'a>(
+    chain: &[Device],
+    driver: usize,
+    p0: &'a [u8],
+    p1: &'a [u8],
+    first: usize,
+    last: usize,
+) -> Result<&'a [u8], Refusal> {
+    let (n, l0, l1) = (chain.len(), p0.len(), p1.len());
+    // SAFETY: each pointer has the length of its slice, and nothing is written.
+    Refusal::of(unsafe {
+        sys::max6954_plane_number(
+            chain.as_ptr(),
+            n,
+            driver,
+            p0.as_ptr(),
+            l0,
+            p1.as_ptr(),
+            l1,
+            first,
+            last,
+        )
+    })?;
+    let part = match shown(chain, driver)? {
+        Plane::P0 => p0,
+        Plane::P1 => p1,
+    };
+    Ok(&part[first..=last])
+}
+
+/// The pins O0 to O18 of a cathode under two glyph tables of 128 words, for 14 and for 16 segments.
+pub fn segments(
+    chain: &[Device],
+    driver: usize,
+    cathode: usize,
+    font14: &[u16],
+    font16: &[u16],
+) -> Result<[Pin; 19], Refusal> {
+    let (n, l14, l16) = (chain.len(), font14.len(), font16.len());
+    // SAFETY: each pointer has the length of its slice, and nothing is written.
+    let answer = unsafe {
+        sys::max6954_segments(
+            chain.as_ptr(),
+            n,
+            driver,
+            cathode,
+            font14.as_ptr(),
+            l14,
+            font16.as_ptr(),
+            l16,
+        )
+    };
+    Refusal::of(answer.number)?;
+    Ok(answer
+        .pins
+        .map(|number| Pin::BY_NUMBER[usize::from(number)]))
+}
+
+/// The brightness of a digit in sixteenths: digits 0 to 7, then 8 to 15 for 0a to 7a.
+pub fn brightness(chain: &[Device], driver: usize, digit: usize) -> Result<u8, Refusal> {
+    // SAFETY: the pointer has the length of its slice, and nothing is written.
+    let answer = unsafe { sys::max6954_brightness(chain.as_ptr(), chain.len(), driver, digit) };
+    Refusal::of(answer.number)?;
+    Ok(answer.sixteenths)
+}
+
+/// The plane that a driver shows.
+pub fn shown(chain: &[Device], driver: usize) -> Result<Plane, Refusal> {
+    // SAFETY: the pointer has the length of its slice, and nothing is written.
+    let answer = unsafe { sys::max6954_shown(chain.as_ptr(), chain.len(), driver) };
+    Refusal::of(answer.number)?;
+    Ok(if answer.plane == 0 {
+        Plane::P0
+    } else {
+        Plane::P1
+    })
+}
+
+/// Whether a driver's interrupt is raised.
+pub fn interrupt(chain: &[Device], driver: usize) -> Result<bool, Refusal> {
+    // SAFETY: the pointer has the length of its slice, and nothing is written.
+    let answer = unsafe { sys::max6954_interrupt(chain.as_ptr(), chain.len(), driver) };
+    Refusal::of(answer.number)?;
+    Ok(answer.raised == 1)
+}

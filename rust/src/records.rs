@@ -1,0 +1,107 @@
+//! A driver's record, laid out as the library has it. Any values are a record; one that isn't sound is refused.
+use crate::sys;
+
+/// The control registers as stored.
+#[repr(C)]
+#[derive(Clone, Copy, Debug, PartialEq, Eq)]
+pub struct Controls {
+    /// 0x01 decode mode, bit d for digits d and da: 1 is the hex font, 0 a bit for each segment; 7-segment pairs only.
+    pub decode: u8,
+    /// 0x02 global intensity, 4 bits.
+    pub global: u8,
+    /// 0x03 scan limit, 3 bits: cathodes above it are dark.
+    pub limit: u8,
+    /// 0x05 GPIO data, 5 bits, bit k is Pk: what an output gives.
+    pub gpio: u8,
+    /// 0x06 port configuration: key groups in D7 to D5 (4 and above are 4), directions of P4 to P0 below, 1 is input.
+    pub ports: u8,
+    /// 0x07 display test, 1 bit.
+    pub test: u8,
+    /// 0x0C digit type, bit d for cathode d: 1 is 14 segments, 0 is 16 or a 7-segment pair as `fitted` has it.
+    pub types: u8,
+}
+
+/// 0x04 configuration: the stored bits, each 0 or 1.
+#[repr(C)]
+#[derive(Clone, Copy, Debug, PartialEq, Eq)]
+pub struct Config {
+    /// D6: each digit's own intensity.
+    pub i: u8,
+    /// D3: blinking enabled.
+    pub e: u8,
+    /// D2: blinking fast.
+    pub b: u8,
+    /// D0: normal operation, 0 is shutdown.
+    pub s: u8,
+}
+
+/// Eight keys of a group, bit k for key k.
+#[repr(C)]
+#[derive(Clone, Copy, Debug, PartialEq, Eq)]
+pub struct Group {
+    /// 0x08 to 0x0B as written: keys that raise the interrupt.
+    pub mask: u8,
+    /// 0x08 to 0x0B as read: debounced since it was last read.
+    pub debounced: u8,
+    /// 0x0C to 0x0F as read: closed in the last scan.
+    pub pressed: u8,
+    /// Still closed since they were debounced, so not debounced again.
+    pub held: u8,
+}
+
+/// Key groups A to D, and the interrupt that they share.
+#[repr(C)]
+#[derive(Clone, Copy, Debug, PartialEq, Eq)]
+pub struct Keys {
+    pub a: Group,
+    pub b: Group,
+    pub c: Group,
+    pub d: Group,
+    /// 1 when raised, else 0.
+    pub interrupt: u8,
+}
+
+/// The digit bytes: digits 0 to 7, then 0a to 7a.
+#[repr(C)]
+#[derive(Clone, Copy, Debug, PartialEq, Eq)]
+pub struct Planes {
+    /// 0x20 to 0x2F.
+    pub p0: [u8; 16],
+    /// 0x40 to 0x4F.
+    pub p1: [u8; 16],
+}
+
+/// All that the registers hold or show.
+#[repr(C)]
+#[derive(Clone, Copy, Debug, PartialEq, Eq)]
+pub struct Registers {
+    pub controls: Controls,
+    pub config: Config,
+    /// 0x10 to 0x17: digits 0 and 1, 2 and 3, .. 7, 0a and 1a, .. 7a; the odd one in the high nibble.
+    pub intensities: [u8; 8],
+    pub keys: Keys,
+    pub planes: Planes,
+    /// Levels of the pins P0 to P4, 5 bits, bit k is Pk: what an input reads.
+    pub pins: u32,
+    /// Master clocks modulo 4,000,000.
+    pub blink: u32,
+}
+
+/// A driver's record.
+#[repr(C)]
+#[derive(Clone, Copy, Debug, PartialEq, Eq)]
+pub struct Device {
+    pub registers: Registers,
+    /// The shift word, D15 to D0: the next access clocks it out.
+    pub shift: u16,
+    /// Bit d: cathode d has a 7-segment pair where its digit type is 0, else 16 segments; no call changes it.
+    pub fitted: u8,
+}
+
+impl Device {
+    /// A driver at power-up: in shutdown, every cathode fitted with a 7-segment pair.
+    pub fn power_up() -> Device {
+        // SAFETY: the call takes nothing and gives a record.
+        unsafe { sys::max6954_power_up() }
+    }
+}

@@ -1,0 +1,58 @@
+use std::error::Error;
+use std::fmt;
+
+/// Why a call was refused, in words by `Display`. Where several apply, it is the one with the lowest number.
+#[derive(Clone, Copy, Debug, PartialEq, Eq)]
+pub enum Refusal {
+    ChainLength = 1,
+    DriverNumber = 2,
+    TooManyClocks = 3,
+    SentTooShort = 4,
+    AnswerTooShort = 5,
+    OutOfRange = 6,
+    Unsound = 7,
+}
+
+impl Refusal {
+    const BY_NUMBER: [Refusal; 7] = [
+        Refusal::ChainLength,
+        Refusal::DriverNumber,
+        Refusal::TooManyClocks,
+        Refusal::SentTooShort,
+        Refusal::AnswerTooShort,
+        Refusal::OutOfRange,
+        Refusal::Unsound,
+    ];
+
+    /// Its number, 1 to 7.
+    pub fn number(self) -> u8 {
+        self as u8
+    }
+
+    // What a call's number says: 0 is served.
+    pub(crate) fn of(number: u8) -> Result<(), Refusal> {
+        match usize::from(number).checked_sub(1) {
+            None => Ok(()),
+            Some(k) => Err(Refusal::BY_NUMBER[k]),
+        }
+    }
+}
+
+impl fmt::Display for Refusal {
+    fn fmt(&self, f: &mut fmt::Formatter<'_>) -> fmt::Result {
+        f.write_str(match self {
+            Refusal::ChainLength => "the chain has 0 or more than 16 records",
+            Refusal::DriverNumber => "driver number not in 1..n",
+            Refusal::TooManyClocks => "more than 4,096 clocks in one access",
+            Refusal::SentTooShort => "sent bytes fewer than the clocks need",
+            Refusal::AnswerTooShort => "room for answer bytes fewer than the clocks need",
+            Refusal::OutOfRange => {
+                "cathode above 7, pin levels above 31, a digit (alone or in a range) above 15, a range's last digit \
+                 below its first, a lent plane not 16 long, or a glyph table not 128 long"
+            }
+            Refusal::Unsound => "some record of the chain isn't sound",
+        })
+    }
+}
+
+impl Error for Refusal {}

@@ -1,0 +1,92 @@
+//! The exported calls, as include/ratchetelm.h declares them.
+
+// A record that isn't laid out as in C is not built.
+#![deny(improper_ctypes)]
+
+use crate::Device;
+
+#[repr(C)]
+pub struct SegmentAnswer {
+    pub number: u8,
+    pub pins: [u8; 19],
+}
+
+#[repr(C)]
+pub struct BrightnessAnswer {
+    pub number: u8,
+    pub sixteenths: u8,
+}
+
+#[repr(C)]
+pub struct ShownAnswer {
+    pub number: u8,
+    pub plane: u8,
+}
+
+#[repr(C)]
+pub struct InterruptAnswer {
+    pub number: u8,
+    pub raised: u8,
+}
+
+extern "C" {
+    pub fn max6954_power_up() -> Device;
+
+    pub fn max6954_access(
+        chain: *mut Device,
+        n: usize,
+        clocks: usize,
+        sent: *const u8,
+        sent_length: usize,
+        answer: *mut u8,
+        room: usize,
+    ) -> u8;
+
+    pub fn max6954_scan(
+        chain: *mut Device,
+        n: usize,
+        driver: usize,
+        a: u8,
+        b: u8,
+        c: u8,
+        d: u8,
+    ) -> u8;
+
+    pub fn max6954_set_pins(chain: *mut Device, n: usize, driver: usize, levels: u32) -> u8;
+
+    pub fn max6954_add_clocks(chain: *mut Device, n: usize, driver: usize, clocks: u32) -> u8;
+
+    pub fn max6954_segments(
+        chain: *const Device,
+        n: usize,
+        driver: usize,
+        cathode: usize,
+        font14: *const u16,
+        font14_length: usize,
+        font16: *const u16,
+        font16_length: usize,
+    ) -> SegmentAnswer;
+
+    pub fn max6954_brightness(
+        chain: *const Device,
+        n: usize,
+        driver: usize,
+        digit: usize,
+    ) -> BrightnessAnswer;
+
+    pub fn max6954_shown(chain: *const Device, n: usize, driver: usize) -> ShownAnswer;
+
+    pub fn max6954_interrupt(chain: *const Device, n: usize, driver: usize) -> InterruptAnswer;
+
+    pub fn max6954_plane_number(
+        chain: *const Device,
+        n: usize,
+        driver: usize,
+        p0: *const u8,
+        p0_length: usize,
+        p1: *const u8,
+        p1_length: usize,
+        first: usize,
+        last: usize,
+    ) -> u8;
+}

@@ -1,0 +1,196 @@
+//! Random calls, with long, short and damaged arguments, and a call in words.
+
+use crate::convert::hex;
+use crate::random::Random;
+use crate::words;
+use second_double::Call;
+
+/// The kinds of calls, in the order of `kind_of`.
+pub const KINDS: [&str; 9] = [
+    "access",
+    "scan",
+    "pins",
+    "clocks",
+    "plane",
+    "segments",
+    "brightness",
+    "shown",
+    "interrupt",
+];
+
+/// The place of a call's kind among `KINDS`.
+pub fn kind_of(call: &Call) -> usize {
+    match call {
+        Call::Access { .. } => 0,
+        Call::Scan { .. } => 1,
+        Call::Pins { .. } => 2,
+        Call::Clocks { .. } => 3,
+        Call::Plane { .. } => 4,
+        Call::Segments { .. } => 5,
+        Call::Brightness { .. } => 6,
+        Call::Shown { .. } => 7,
+        Call::Interrupt { .. } => 8,
+    }
+}
+
+/// The driver that a call names; an access names none.
+pub fn driver_of(call: &Call) -> Option<usize> {
+    match call {
+        Call::Access { .. } => None,
+        Call::Scan { driver, .. }
+        | Call::Pins { driver, .. }
+        | Call::Clocks { driver, .. }
+        | Call::Plane { driver, .. }
+        | Call::Segments { driver, .. }
+        | Call::Brightness { driver, .. }
+        | Call::Shown { driver }
+        | Call::Interrupt { driver } => Some(*driver),
+    }
+}
+
+/// A call on a chain of n, mostly one that is served.
+pub fn call(random: &mut Random, n: usize) -> Call {
+    let driver = driver(random, n);
+    match random.below(14) {
+        0..=5 => access(random, n),
+        6 | 7 => Call::Scan {
+            driver,
+            keys: words::keys(random),
+        },
+        8 => Call::Pins {
+            driver,
+            levels: within(random, 32, u32::MAX as usize) as u32,
+        },
+        9 => Call::Clocks {
+            driver,
+            clocks: words::master_clocks(random),
+        },
+        10 => plane(random, driver),
+        11 => segments(random, driver),
+        12 => Call::Brightness {
+            driver,
+            digit: within(random, 16, usize::MAX),
+        },
+        _ if random.one_in(2) => Call::Shown { driver },
+        _ => Call::Interrupt { driver },
+    }
+}
+
+/// Mostly below n; otherwise n, the largest, or a number that looks small in its low half.
+fn within(random: &mut Random, n: usize, largest: usize) -> usize {
+    match random.below(40) {
+        0 => n,
+        1 => largest,
+        2 => (1 << 32 | random.below(n)) & largest,
+        3 => random.number() as usize & largest,
+        _ => random.below(n),
+    }
+}
+
+/// A driver in 1..n, sometimes another.
+fn driver(random: &mut Random, n: usize) -> usize {
+    within(random, n.max(1), usize::MAX).wrapping_add(1)
+}
+
+/// A length: mostly the one given, otherwise one less, more, or none.
+fn length(random: &mut Random, exact: usize) -> usize {
+    match random.below(24) {
+        0 => exact.saturating_sub(1),
+        1 => exact + 1,
+        2 => 0,
+        3..=7 => exact + random.below(9),
+        _ => exact,
+    }
+}
+
+fn access(random: &mut Random, n: usize) -> Call {
+    let clocks = match random.below(60) {
+        0 => usize::MAX - random.below(9),
+        1 => 1 << 32 | random.below(4097),
+        _ => words::clocks(random, n),
+    };
+    let needed = clocks.min(4104).div_ceil(8);
+    let (sent, room) = (length(random, needed), length(random, needed));
+    Call::Access {
+        clocks,
+        sent: words::bits(random, sent),
+        room: random.bytes(room),
+    }
+}
+
+fn plane(random: &mut Random, driver: usize) -> Call {
+    let ends = [(); 2].map(|()| within(random, 16, usize::MAX));
+    let (mut first, mut last) = (ends[0].min(ends[1]), ends[0].max(ends[1]));
+    if random.one_in(12) {
+        (first, last) = (last, first);
+    }
+    let (l0, l1) = (table_length(random, 16), table_length(random, 16));
+    Call::Plane {
+        driver,
+        p0: random.bytes(l0),
+        p1: random.bytes(l1),
+        first,
+        last,
+    }
+}
+
+fn segments(random: &mut Random, driver: usize) -> Call {
+    Call::Segments {
+        driver,
+        cathode: within(random, 8, usize::MAX),
+        font14: font(random),
+        font16: font(random),
+    }
+}
+
+fn font(random: &mut Random) -> Vec<u16> {
+    let length = table_length(random, 128);
+    (0..length).map(|_| random.number() as u16).collect()
+}
+
+/// Mostly the length that a plane or table must have.
+fn table_length(random: &mut Random, exact: usize) -> usize {
+    match random.below(60) {
+        0 => exact - 1,
+        1 => exact + 1,
+        2 => 0,
+        _ => exact,
+    }
+}
+
+/// A call in words, its lent bytes in hex.
+pub fn spelled(call: &Call) -> String {
+    let rest = match call {
+        Call::Access { clocks, sent, room } => {
+            format!("clocks={clocks} sent={} room={}", hex(sent), hex(room))
+        }
+        Call::Scan { keys, .. } => format!("keys={}", hex(keys)),
+        Call::Pins { levels, .. } => format!("levels={levels}"),
+        Call::Clocks { clocks, .. } => format!("clocks={clocks}"),
+        Call::Plane {
+            p0,
+            p1,
+            first,
+            last,
+            ..
+        } => format!("p0={} p1={} first={first} last={last}", hex(p0), hex(p1)),
+        Call::Segments {
+            cathode,
+            font14,
+            font16,
+            ..
+        } => format!(
+            "cathode={cathode} font14={} font16={}",
+            hex_words(font14),
+            hex_words(font16)
+        ),
+        Call::Brightness { digit, .. } => format!("digit={digit}"),
+        Call::Shown { .. } | Call::Interrupt { .. } => String::new(),
+    };
+    let driver = driver_of(call).map_or(String::new(), |driver| format!("driver={driver} "));
+    format!("{} {driver}{rest}", KINDS[kind_of(call)])
+}
+
+fn hex_words(words: &[u16]) -> String {
+    words.iter().map(|word| format!("{word:04X}")).collect()
+}

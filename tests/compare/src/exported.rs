@@ -1,0 +1,82 @@
+//! The exported questions as C has them. The safe calls drop what a refused one gives back.
+
+use ratchetelm::Device;
+use second_double::Reply;
+
+#[repr(C)]
+struct Segments {
+    number: u8,
+    pins: [u8; 19],
+}
+
+#[repr(C)]
+struct One {
+    number: u8,
+    value: u8,
+}
+
+impl From<One> for Reply {
+    fn from(one: One) -> Reply {
+        Reply {
+            number: one.number,
+            back: vec![one.value],
+        }
+    }
+}
+
+extern "C" {
+    fn max6954_segments(
+        chain: *const Device,
+        n: usize,
+        driver: usize,
+        cathode: usize,
+        font14: *const u16,
+        font14_length: usize,
+        font16: *const u16,
+        font16_length: usize,
+    ) -> Segments;
+    fn max6954_brightness(chain: *const Device, n: usize, driver: usize, digit: usize) -> One;
+    fn max6954_shown(chain: *const Device, n: usize, driver: usize) -> One;
+    fn max6954_interrupt(chain: *const Device, n: usize, driver: usize) -> One;
+}
+
+pub fn segments(
+    chain: &[Device],
+    driver: usize,
+    cathode: usize,
+    font14: &[u16],
+    font16: &[u16],
+) -> Reply {
+    // SAFETY: each pointer has the length of its slice, and nothing is written.
+    let answer = unsafe {
+        max6954_segments(
+            chain.as_ptr(),
+            chain.len(),
+            driver,
+            cathode,
+            font14.as_ptr(),
+            font14.len(),
+            font16.as_ptr(),
+            font16.len(),
+        )
+    };
+    Reply {
+        number: answer.number,
+        back: answer.pins.to_vec(),
+    }
+}
+
+pub fn brightness(chain: &[Device], driver: usize, digit: usize) -> Reply {
+    // SAFETY: the pointer has the length of its slice, and nothing is written.
+    unsafe { max6954_brightness(chain.as_ptr(), chain.len(), driver, digit) }.into()
+}
+
+pub fn shown(chain: &[Device], driver: usize) -> Reply {
+    // SAFETY: the pointer has the length of its slice, and nothing is written.
+    unsafe { max6954_shown(chain.as_ptr(), chain.len(), driver) }.into()
+}
+
+pub fn interrupt(chain: &[Device], driver: usize) -> Reply {
+    // SAFETY: the pointer has the length of its slice, and nothing is written.
+    unsafe { max6954_interrupt(chain.as_ptr(), chain.len(), driver) }.into()
+}

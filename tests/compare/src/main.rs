@@ -1,0 +1,30 @@
+//! Runs the comparison. COMPARE_SEED is another seed, COMPARE_TIMES a longer run, COMPARE_PANEL another panel program.
+
+use compare::{calls, lists, scripts};
+use std::env;
+use std::process::ExitCode;
+
+fn main() -> ExitCode {
+    let seed = setting("COMPARE_SEED", 6954);
+    let times = setting("COMPARE_TIMES", 1) as usize;
+    println!("seed {seed}");
+    let (mut passed, mut failed) = (0, 0);
+    for compare in [scripts::compare, calls::compare, lists::compare] {
+        let part = compare(seed, times);
+        let holding = part.checks.iter().filter(|check| check.holds()).count();
+        passed += holding;
+        failed += part.checks.len() - holding;
+    }
+    println!("{passed} passed, {failed} failed");
+    ExitCode::from(u8::from(failed > 0))
+}
+
+/// A number from the environment.
+fn setting(name: &str, usual: u64) -> u64 {
+    let given = env::var(name).map(|text| text.parse());
+    match given {
+        Ok(Ok(number)) => number,
+        Ok(Err(_)) => panic!("{name} isn't a number"),
+        Err(_) => usual,
+    }
+}

@@ -1,0 +1,91 @@
+//! The calls of the proved library, asked as the second double's are.
+
+use crate::exported;
+use ratchetelm::{Device, Refusal};
+use second_double::{Call, Reply};
+
+/// Bytes before and after the lent room.
+const GUARD: [u8; 5] = [0xA5; 5];
+
+/// Serves or refuses one call.
+pub fn call(chain: &mut [Device], call: &Call) -> Reply {
+    match call {
+        Call::Access { clocks, sent, room } => access(chain, *clocks, sent, room),
+        Call::Scan { driver, keys } => done(ratchetelm::scan(chain, *driver, *keys)),
+        Call::Pins { driver, levels } => done(ratchetelm::set_pins(chain, *driver, *levels)),
+        Call::Clocks { driver, clocks } => done(ratchetelm::add_clocks(chain, *driver, *clocks)),
+        _ => question(chain, call),
+    }
+}
+
+fn question(chain: &[Device], call: &Call) -> Reply {
+    match call {
+        Call::Plane {
+            driver,
+            p0,
+            p1,
+            first,
+            last,
+        } => reply(ratchetelm::plane(chain, *driver, p0, p1, *first, *last).map(<[u8]>::to_vec)),
+        Call::Segments {
+            driver,
+            cathode,
+            font14,
+            font16,
+        } => agreed(
+            ratchetelm::segments(chain, *driver, *cathode, font14, font16)
+                .map(|pins| pins.map(|pin| pin as u8).to_vec()),
+            exported::segments(chain, *driver, *cathode, font14, font16),
+        ),
+        Call::Brightness { driver, digit } => agreed(
+            ratchetelm::brightness(chain, *driver, *digit).map(|sixteenths| vec![sixteenths]),
+            exported::brightness(chain, *driver, *digit),
+        ),
+        Call::Shown { driver } => agreed(
+            ratchetelm::shown(chain, *driver).map(|plane| vec![plane as u8]),
+            exported::shown(chain, *driver),
+        ),
+        Call::Interrupt { driver } => agreed(
+            ratchetelm::interrupt(chain, *driver).map(|raised| vec![u8::from(raised)]),
+            exported::interrupt(chain, *driver),
+        ),
+        _ => unreachable!("the other calls change the chain"),
+    }
+}
+
+/// The room after an access; with the guards where one of them changed, so that it is too long.
+fn access(chain: &mut [Device], clocks: usize, sent: &[u8], room: &[u8]) -> Reply {
+    let mut lent = [&GUARD[..], room, &GUARD[..]].concat();
+    let end = GUARD.len() + room.len();
+    let result = ratchetelm::access(chain, clocks, sent, &mut lent[GUARD.len()..end]);
+    if lent.starts_with(&GUARD) && lent.ends_with(&GUARD) {
+        lent = lent[GUARD.len()..end].to_vec();
+    }
+    Reply {
+        back: lent,
+        ..done(result)
+    }
+}
+
+/// A call that gives nothing back.
+fn done(result: Result<(), Refusal>) -> Reply {
+    reply(result.map(|()| Vec::new()))
+}
+
+/// The safe answer; where refused, with what the exported question gives back.
+fn agreed(safe: Result<Vec<u8>, Refusal>, exported: Reply) -> Reply {
+    match safe {
+        Err(refusal) if refusal.number() == exported.number => exported,
+        _ => reply(safe),
+    }
+}
+
+fn reply(result: Result<Vec<u8>, Refusal>) -> Reply {
+    match result {
+        Ok(back) => Reply { number: 0, back },
+        Err(refusal) => Reply {
+            number: refusal.number(),
+            back: Vec::new(),
+        },
+    }
+}

@@ -1,0 +1,254 @@
+/* The records of include/ratchetelm.h against the library's, a row for each field: a call changes that field's bytes alone, and what C puts there
+   is what the library finds. It is both C and C++. */
+#include <stddef.h>
+#include <stdio.h>
+#include <string.h>
+#include "ratchetelm.h"
+
+/* The driver under test has a neighbour on each side. */
+enum { DRIVERS = 3, DRIVER = 2 };
+
+static max6954_device chain[DRIVERS];
+static int passed, failed;
+
+/* Steps are text, each a letter and a hex number: W a word sent to the driver, S a scan (a byte for each group, A first), P pin levels, C master
+   clocks. Questions too: W gives the word that comes out, R a register's data, I the interrupt, O a pin of cathode 0. */
+typedef struct {
+    const char *name;
+    size_t offset, width, elements;
+    const char *before;      /* steps from power-up */
+    const char *step;        /* changes this field alone, beside the shift word that a word sent changes; NULL where no call changes the field */
+    unsigned value;          /* what the field holds after it */
+    const char *question;    /* its last step gives */
+    unsigned answer;         /* this where C has put the value in, and not before */
+    unsigned unsound;        /* the lowest value that isn't sound, 0 where none is */
+} field;
+
+#define OF(path) ((max6954_device *)0)->path
+#define FIELD(path) #path, offsetof(max6954_device, path), sizeof(OF(path)), 1
+#define ARRAY(path) #path, offsetof(max6954_device, path), sizeof(OF(path)[0]), sizeof(OF(path)) / sizeof(OF(path)[0])
+
+/* The rows of a key group: the low digit of its mask's address and of its pressed register's, and its key 4 in a scan. */
+#define GROUP(g, m, p, key)                                                                                                          \
+    { FIELD(registers.keys.g.mask), "W0680", "W0" m "10", 0x10, "S" key " S" key " I0", 1, 0 },                                       \
+    { FIELD(registers.keys.g.debounced), "W0680 S" key " S" key, "W8" m "00", 0, "R8" m "00", 0, 0 },                                 \
+    { FIELD(registers.keys.g.pressed), "W0680", "S" key, 0x10, "R8" p "00", 0x10, 0 },                                                \
+    { FIELD(registers.keys.g.held), "W0680 S" key " S" key " S0 S" key, "S" key, 0x10, "R8" m "00 S" key " R8" m "00", 0, 0 }
+
+static const field fields[] = {
+    { FIELD(registers.controls.decode), "", "W015A", 0x5A, "R8100", 0x5A, 0 },
+    { FIELD(registers.controls.global), "", "W020A", 0x0A, "R8200", 0x0A, 16 },
+    { FIELD(registers.controls.limit), "", "W0305", 5, "R8300", 5, 8 },
+    { FIELD(registers.controls.gpio), "W0600", "W0515", 0x15, "R8500", 0x15, 32 },
+    { FIELD(registers.controls.ports), "", "W0676", 0x76, "R8600", 0x76, 0 },
+    { FIELD(registers.controls.test), "", "W0701", 1, "R8700", 1, 2 },
+    { FIELD(registers.controls.types), "W0401", "W0C01", 1, "O7", MAX6954_NO_SEGMENT, 0 },
+    { FIELD(registers.config.i), "", "W0440", 1, "R8400", 0xC0, 2 },
+    { FIELD(registers.config.e), "", "W0408", 1, "R8400", 0x88, 2 },
+    { FIELD(registers.config.b), "", "W0404", 1, "R8400", 0x84, 2 },
+    { FIELD(registers.config.s), "", "W0401", 1, "R8400", 0x81, 2 },
+    { ARRAY(registers.intensities), "", "W10A5", 0xA5, "R9000", 0xA5, 0 },
+    GROUP(a, "8", "C", "10000000"),
+    GROUP(b, "9", "D", "00100000"),
+    GROUP(c, "A", "E", "00001000"),
+    GROUP(d, "B", "F", "00000010"),
+    { FIELD(registers.keys.interrupt), "W0680 W0810 S10000000 S10000000", "W8900", 0, "I0", 0, 2 },
+    { ARRAY(registers.planes.p0), "", "W20A5", 0xA5, "RA000", 0xA5, 0 },
+    { ARRAY(registers.planes.p1), "", "W40A5", 0xA5, "RC000", 0xA5, 0 },
+    { FIELD(registers.pins), "", "P15", 0x15, "R8500", 0x15, 32 },
+    { FIELD(registers.blink), "", "C212345", 0x212345, "R8400", 0, 4000000 },
+    { FIELD(shift), "", "W7F5A", 0x7F5A, "W0000", 0x7F5A, 0 },
+    { FIELD(fitted), "W0401", NULL, 0, "O3", MAX6954_UNLIT, 0 },
+};
+
+static void holds(const char *what, const char *name, int yes)
+{
+    if (yes)
+        passed++;
+    else
+        printf("FAILED: %s: %s\n", what, name), failed++;
+}
+
+/* A word to the driver and no-ops to its neighbours; gives the word that comes out in its place. */
+static unsigned sent(unsigned word)
+{
+    const size_t at = 2 * (DRIVERS - DRIVER);
+    uint8_t bytes[2 * DRIVERS] = { 0 }, answer[2 * DRIVERS] = { 0 };
+    bytes[at] = (uint8_t)(word >> 8);
+    bytes[at + 1] = (uint8_t)word;
+    max6954_access(chain, DRIVERS, 16 * DRIVERS, bytes, sizeof bytes, answer, sizeof answer);
+    return answer[at] * 256u + answer[at + 1];
+}
+
+/* One step; what it gives where it is a question, else its call's number. */
+static unsigned stepped(char kind, unsigned v)
+{
+    static const uint16_t font[128] = { 0 };
+    switch (kind) {
+    case 'W':
+        return sent(v);
+    case 'R':
+        sent(v);
+        return sent(0) % 256;
+    case 'S':
+        return max6954_scan(chain, DRIVERS, DRIVER, (uint8_t)(v >> 24), (uint8_t)(v >> 16), (uint8_t)(v >> 8), (uint8_t)v);
+    case 'P':
+        return max6954_set_pins(chain, DRIVERS, DRIVER, v);
+    case 'C':
+        return max6954_add_clocks(chain, DRIVERS, DRIVER, v);
+    case 'I':
+        return max6954_interrupt(chain, DRIVERS, DRIVER).raised;
+    default:
+        return max6954_segments(chain, DRIVERS, DRIVER, 0, font, 128, font, 128).pins[v];
+    }
+}
+
+/* Steps in turn; gives what the last one gives. The register of element k is k addresses on. */
+static unsigned run(const char *steps, unsigned k)
+{
+    unsigned v, result = 0;
+    char kind;
+    int used;
+    for (; sscanf(steps, " %c%x%n", &kind, &v, &used) == 2; steps += used)
+        result = stepped(kind, v + 0x100 * k);
+    return result;
+}
+
+static void prepare(const char *steps)
+{
+    for (int i = 0; i < DRIVERS; i++)
+        chain[i] = max6954_power_up();
+    run(steps, 0);
+}
+
+/* A value put into the driver's field by C. */
+static void put(const field *f, unsigned k, unsigned v)
+{
+    const uint8_t one = (uint8_t)v;
+    const uint16_t two = (uint16_t)v;
+    const uint32_t four = v;
+    const void *from = f->width == 1 ? (const void *)&one : f->width == 2 ? (const void *)&two : (const void *)&four;
+    memcpy((uint8_t *)&chain[DRIVER - 1] + f->offset + k * f->width, from, f->width);
+}
+
+/* The bytes of a record; after them comes padding. */
+enum { BYTES = offsetof(max6954_device, fitted) + 1 };
+
+static int same(const max6954_device *records)
+{
+    int all = 1;
+    for (int i = 0; i < DRIVERS; i++)
+        all = all && memcmp(&chain[i], &records[i], BYTES) == 0;
+    return all;
+}
+
+/* The step leaves what C leaves by putting the value in, and that is something else than before. */
+static int written(const field *f, unsigned k)
+{
+    max6954_device after[DRIVERS];
+    prepare(f->before);
+    run(f->step, k);
+    memcpy(after, chain, sizeof chain);
+    prepare(f->before);
+    if (f->step[0] == 'W' && f->offset != offsetof(max6954_device, shift))
+        chain[DRIVER - 1].shift = after[DRIVER - 1].shift;
+    const int changed = !same(after);
+    put(f, k, f->value);
+    return changed && same(after);
+}
+
+/* The question gets the answer by what C has put in. */
+static int found(const field *f, unsigned k)
+{
+    prepare(f->before);
+    const unsigned without = run(f->question, k);
+    prepare(f->before);
+    put(f, k, f->value);
+    return without != f->answer && run(f->question, k) == f->answer;
+}
+
+/* The highest sound value is served; what isn't sound gives 7, up to the field's highest bit. */
+static int bounded(const field *f, unsigned k)
+{
+    prepare(f->before);
+    put(f, k, f->unsound - 1);
+    int all = max6954_shown(chain, DRIVERS, DRIVER).number == 0;
+    for (uint64_t v = f->unsound; v != 0 && v >> 8 * f->width == 0; v *= 2) {
+        put(f, k, (unsigned)v);
+        all = all && max6954_shown(chain, DRIVERS, DRIVER).number == 7;
+    }
+    return all;
+}
+
+static int each_element(const field *f, int (*check)(const field *, unsigned))
+{
+    int all = 1;
+    for (unsigned k = 0; k < f->elements; k++)
+        all = all && check(f, k);
+    return all;
+}
+
+/* Each byte of a record is of one row. */
+static int covered(void)
+{
+    int rows[sizeof(max6954_device)] = { 0 }, all = 1;
+    for (size_t i = 0; i < sizeof fields / sizeof fields[0]; i++)
+        for (size_t b = 0; b < fields[i].width * fields[i].elements; b++)
+            rows[fields[i].offset + b]++;
+    for (size_t b = 0; b < BYTES; b++)
+        all = all && rows[b] == 1;
+    return all;
+}
+
+/* The record at power-up, as C has it by name. */
+static int powered_up(void)
+{
+    max6954_device up;
+    memset(&up, 0, sizeof up);
+    up.registers.controls.decode = 255;
+    up.registers.controls.limit = 7;
+    up.registers.controls.ports = 31;
+    memset(up.registers.planes.p0, 32, 8);
+    memset(up.registers.planes.p1, 32, 8);
+    up.fitted = 255;
+    const max6954_device given = max6954_power_up();
+    return memcmp(&given, &up, BYTES) == 0;
+}
+
+/* Each answer's fields, served to the driver and refused to one that isn't there. */
+static void answers(void)
+{
+    static const uint16_t font[128] = { 0 };
+    static const uint8_t pins[19] = { 1, 0, 2, 4, 2, 2, 3, 2, 2, 2, 2, 2, 2, 2, 2, 2, 2, 3, 3 }, none[19] = { 0 };
+    /* global intensity 9, blinking; an A with its point on digit 0 of P1, which is shown; a key debounced */
+    prepare("W0209 W0409 W408A C200000 W0680 W0810 S10000000 S10000000");
+    const max6954_segment_answer s = max6954_segments(chain, DRIVERS, DRIVER, 0, font, 128, font, 128);
+    const max6954_segment_answer s4 = max6954_segments(chain, DRIVERS, 4, 0, font, 128, font, 128);
+    holds("served", "segment answer", s.number == 0 && sizeof s.pins == 19 && memcmp(s.pins, pins, 19) == 0);
+    holds("refused", "segment answer", s4.number == 2 && memcmp(s4.pins, none, 19) == 0);
+    const max6954_brightness_answer b = max6954_brightness(chain, DRIVERS, DRIVER, 0), b4 = max6954_brightness(chain, DRIVERS, 4, 0);
+    holds("served", "brightness answer", b.number == 0 && b.sixteenths == 10);
+    holds("refused", "brightness answer", b4.number == 2 && b4.sixteenths == 0);
+    const max6954_shown_answer p = max6954_shown(chain, DRIVERS, DRIVER), p4 = max6954_shown(chain, DRIVERS, 4);
+    holds("served", "shown answer", p.number == 0 && p.plane == 1);
+    holds("refused", "shown answer", p4.number == 2 && p4.plane == 0);
+    const max6954_interrupt_answer i = max6954_interrupt(chain, DRIVERS, DRIVER), i4 = max6954_interrupt(chain, DRIVERS, 4);
+    holds("served", "interrupt answer", i.number == 0 && i.raised == 1);
+    holds("refused", "interrupt answer", i4.number == 2 && i4.raised == 0);
+}
+
+int main(void)
+{
+    holds("each byte is of one field", "device", covered());
+    holds("power-up", "device", powered_up());
+    for (size_t i = 0; i < sizeof fields / sizeof fields[0]; i++) {
+        const field *f = &fields[i];
+        if (f->step)
+            holds("a call changes it alone", f->name, each_element(f, written));
+        holds("the library finds what C puts there", f->name, each_element(f, found));
+        holds("sound up to its bound", f->name, each_element(f, bounded));
+    }
+    answers();
+    printf("%d passed, %d failed\n", passed, failed);
+    return failed != 0;
+}

@@ -7,11 +7,10 @@ use mathlib.Core.List.{List, [], _∷_}
 use mathlib.Core.Path.{_≡_, refl, sym, ap, _∙_}
 use lib.Dec.{eqb, leb}
 use lib.ListN.{length, drop}
-use lib.Seq.{drop-drop}
-use borrow.Author.Tests.{leb-true, eqb-true, ne-eqb, eq-eqb}
+use borrow.Author.Tests.{leb-true, eqb-true, ne-eqb}
 use Rattle.words.specs.Choice.{if}
 use Rattle.words.proofs.Truth.{and-left, and-right}
-use Rattle.script.specs.Format.{byte, kindOf, bodyLength, sizeOf, bodyOf, lengthFits, wellFormed, callOf, Item, chain, call, malformed, itemAt, itemsAfter, items}
+use Rattle.script.specs.Format.{byte, kindOf, bodyLength, sizeOf, lengthFits, wellFormed, callOf, Item, itemAt, itemsAfter, items}
 
 -- bytes that are passed over
 items-drop : (k : ℕ) (s : List ℕ) → itemsAfter k s ≡ items (drop k s)

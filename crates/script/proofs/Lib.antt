@@ -3,3 +3,4 @@ pub mod FormatLaws
 pub mod RunLaws
 pub mod LoopLaws
 pub mod StartLaws
+pub mod Bench

@@ -5,11 +5,11 @@ use native.Mathlib.Nat.{zero-add, add-zero, add-suc, suc-add}
 use native.Mathlib.Numerals.{add-one, towards-suc}
 use native.Mathlib.Omega.{arith}
 use mathlib.Core.List.{List, [], _∷_, _++_}
-use mathlib.Core.Path.{_≡_, refl, ap, _∙_}
+use mathlib.Core.Path.{_≡_, refl, _∙_}
 use lib.ListN.{length, set, drop, getD, length-append, length-set}
 use lib.Seq.{sets, length-sets, sets-eq, drop-cons}
 use Rattle.script.specs.Lines.{each, hexByte, answerLine}
-use Rattle.script.specs.Run.{Written}
+use Rattle.script.specs.Steps.{Written}
 
 -- a text in two parts is its first part, and then its second after it
 pub sets-append : (p q o : List ℕ) (at : ℕ) → sets o at (p ++ q) ≡ sets (sets o at p) (at + length p) q

@@ -2,3 +2,5 @@ pub mod Lines
 pub mod Format
 pub mod Script
 pub mod Run
+pub mod Steps
+pub mod Examples

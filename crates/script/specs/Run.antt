@@ -1,22 +1,12 @@
 -- A script run into lent room: what the call leaves there.
 -- Assumes nothing.
-use Prim.Native.Nat.{ℕ, _+_, _*_, _≤_}
-use mathlib.Core.List.{List, [], _++_}
-use mathlib.Core.Path.{_≡_}
+use Prim.Native.Nat.{ℕ, _+_, _*_}
+use mathlib.Core.List.{List, _++_}
 use lib.Dec.{eqb, ltb}
 use lib.ListN.{length, drop}
-use lib.Seq.{sets}
 use Rattle.words.specs.Choice.{if}
-use Rattle.calls.specs.Calls.{Call}
-use Rattle.row.specs.Row.{numberOn, replyOn, doneOn}
-use Rattle.row.specs.declared.Row.{Row}
-use Rattle.row.specs.declared.Done.{Done}
-use Rattle.script.specs.Lines.{refusalLine, lineFor}
-use Rattle.script.specs.Format.{items}
-use Rattle.script.specs.Script.{longest, chainIn, othersIn, printed}
+use Rattle.script.specs.Script.{longest, printed}
 use Rattle.script.specs.declared.Ran.{Ran}
-use Rattle.script.specs.declared.Progress.{Progress}
-use Rattle.script.specs.declared.Start.{Start}
 
 -- room that always suffices, by the script's length: a record prints at most four bytes for each of its own
 abbrev pub roomFor : ℕ → ℕ
@@ -36,30 +26,3 @@ ranOf s out =
 -- the room after it: what is printed, and the bytes after it as they were; where refused nothing changes
 abbrev pub outAfter : List ℕ → List ℕ → List ℕ
 outAfter s out = if (eqb (runNumber (length s) (length out)) 0) (printed s ++ drop (length (printed s)) out) out
-
--- what a call on a row prints
-abbrev pub lineOn : Row → Call → List ℕ
-lineOn r q = lineFor q (numberOn r q) (replyOn r q)
-
--- some bytes written into room from a place on, and the place after them
-pub record Written (text : List ℕ) (at : ℕ) (out out′ : List ℕ) (at′ : ℕ) : Type 0 where
-  pub bytes : out′ ≡ sets out at text
-  pub place : at′ ≡ at + length text
-
--- a refusal's line, or none, after a call that leaves `done`
-pub record Given (done : Done) (at : ℕ) (out out′ : List ℕ) (p : Progress) : Type 0 where
-  pub row-after : p .row ≡ done .row
-  pub line : Written (if (eqb (done .number) 0) [] (refusalLine (done .number))) at out out′ (p .at)
-  pub short : p .at ≤ at + 4
-
--- a call on a row, and its line written; the line is at most four bytes long for each of the record's size
-pub record Obeyed (r : Row) (q : Call) (size at : ℕ) (out out′ : List ℕ) (p : Progress) : Type 0 where
-  pub row-after : p .row ≡ doneOn r q .row
-  pub line : Written (lineOn r q) at out out′ (p .at)
-  pub short : p .at ≤ at + 4 * size
-
--- where a run starts: the chain's length, and where the other records stand
-pub record Started (s : List ℕ) (p : Start) : Type 0 where
-  pub chain-length : p .n ≡ chainIn (items s)
-  pub others : items (drop (p .from) s) ≡ othersIn (items s)
-  pub within : p .from ≤ length s

@@ -9,7 +9,9 @@ ghost use mathlib.Core.Path.{_≡_};
 ghost use lib.ListN.{length, drop};
 ghost use Rattle.script.specs.Format.{testTable, callOf, lengthFits, items};
 ghost use Rattle.script.specs.Script.{freshChain, runLines, itemsPrinted, longest};
-ghost use Rattle.script.specs.Run.{roomFor, ranOf, outAfter, Written, Given, Obeyed, Started};
+ghost use Rattle.script.specs.Run.{roomFor, ranOf, outAfter};
+ghost use Rattle.script.specs.Examples.{Examples};
+ghost use Rattle.script.specs.Steps.{Written, Given, Obeyed, Started};
 use format::byte;
 use format::record_size;
 use format::test_table;
@@ -227,3 +229,8 @@ pub fn run(script: &[u8], out: &mut [u8]) -> Ran
         length: print(script, out),
     }
 }
+
+// A theorem: document 01's script prints its four lines, and the first line is as it says in each case.
+pub fn examples()
+    ensures { λ _. ⌜ Examples ⌝ }
+{}

@@ -1,10 +1,9 @@
 // The lines that a run prints, written into lent room from a place on. Each function gives back the place after its line.
 ghost use Prim.Native.Nat.{_+_, _*_, _<_, _≤_};
 ghost use mathlib.Core.Path.{_≡_};
-ghost use mathlib.Core.List.{[], _∷_};
 ghost use lib.ListN.{length};
 ghost use Rattle.script.specs.Lines.{digit as digitOf, chainLine, refusalLine, hexDigit, hexByte, pinText, each, answerLine, letter as letterOf, showLine};
-ghost use Rattle.script.specs.Run.{Written};
+ghost use Rattle.script.specs.Steps.{Written};
 
 // A decimal digit, the last of v.
 fn digit(v: usize) -> u8

@@ -1,59 +1,45 @@
+-- `script::accessed` meets its contract. Assumes nothing.
 use Prim.Native.Nat.{_≤_}
-use lib.Seq.{length-take-le}
-use Rattle.wire.specs.Bits.{bytesFor}
-use Rattle.script.specs.Format.{word, answerRoom}
-use lib.ListN.{length, drop, length-drop}
-use Rattle.calls.specs.Calls.{access}
-use mathlib.Core.Path.{sym, ap, _∙_}
-use Rattle.row.specs.declared.Done.{Done}
 use native.Mathlib.Omega.{arith}
-use Rattle.script.proofs.RunLaws.{to-end, access-fits, answered, refused}
+use mathlib.Core.Path.{sym, ap, _∙_}
+use lib.Seq.{length-take-le}
+use lib.ListN.{length, drop, length-drop}
 use borrow.Author.Needs.{needs}
+use Rattle.wire.specs.Bits.{bytesFor}
+use Rattle.calls.specs.Calls.{access}
+use Rattle.row.specs.declared.Done.{Done}
+use Rattle.script.specs.Format.{word, answerRoom}
+use Rattle.script.proofs.RunLaws.{to-end, access-fits, answered, refused}
 use Rattle.script.proofs.accessed.Statement.{statement}
 use Rattle.script.proofs.accessed.Tie as tie
-use Rattle.script.proofs.accessed.Reads as reads
-use Rattle.script.proofs.accessed.Lts as lts
-use Rattle.row.proofs.Row.access.Reads as access-reads
-use Rattle.script.proofs.format.word.Reads as word-reads
-use Rattle.script.proofs.lines.answer_line.Reads as answer-line-reads
-use Rattle.script.proofs.lines.refusal_line.Reads as refusal-line-reads
 
--- src/lib.rt:67:9
 word-requires : tie.Need-word-requires
 word-requires c κs = search needs
 
--- src/lib.rt:69:35
 sub-access : tie.Need-sub-access
 sub-access c = search needs
 
--- src/lib.rt:69:35
 part-access-start : tie.Need-part-access-start
 part-access-start c = search needs
 
--- src/lib.rt:69:35
 part-access-end : tie.Need-part-access-end
 part-access-end c = search needs
 
--- src/lib.rt:69:47
 slice-aggregate-access : tie.Need-slice-aggregate-access
 slice-aggregate-access c = search needs
 
--- src/lib.rt:69:9
 access-requires : tie.Need-access-requires
 access-requires c κs = search needs
 
--- src/lib.rt:73:22
 add-count : tie.Need-add-count
 add-count c = search needs
 
--- src/lib.rt:74:31
 array-share-prefix-room : tie.Need-array-share-prefix-room
 array-share-prefix-room c =
     let d = c .before .before .before .access .ensures in
     let f = access-fits (c .before .before .before .before .before .before .before .before .before .args .row) _ _ _ (ap (λ (x : Done). x .number) (sym (d .0)) ∙ c .if1 .taken) in
     omega (arith, f .0, c .before .before .room2 .given)
 
--- src/lib.rt:74:31
 slice-aggregate-answer-line : tie.Need-slice-aggregate-answer-line
 slice-aggregate-answer-line c =
     let d = c .before .before .before .before .access .ensures in
@@ -61,7 +47,6 @@ slice-aggregate-answer-line c =
     let h : bytesFor (c .before .before .before .before .before .before .before .word .result) ≤ length (c .before .before .before .before .access .last .1 .1 .1 .0) = omega (arith, f .0, c .before .before .before .room2 .given) in
     sym (length-take-le _ _ h)
 
--- src/lib.rt:74:13
 answer-line-requires : tie.Need-answer-line-requires
 answer-line-requires c κs =
     let d = c .before .before .before .before .before .access .ensures in
@@ -72,11 +57,9 @@ answer-line-requires c κs =
     let t = length-take-le (bytesFor (c .before .before .before .before .before .before .before .before .word .result)) (c .before .before .before .before .before .access .last .1 .1 .1 .0) h in
     omega (arith, g, length-drop 2 body, t)
 
--- src/lib.rt:75:9
 same-length : tie.Need-same-length
 same-length c = search needs
 
--- src/lib.rt:75:9
 returns : tie.Need-returns
 returns c =
     let a = c .before .before .before .before .before .before .before .before .before .before .before .before .before .before .args in
@@ -84,15 +67,12 @@ returns c =
     let d = c .before .before .before .before .before .before .before .before .access .ensures in
     answered (a .row) (word (a .body .now) 0) (drop 2 (a .body .now)) answerRoom _ (a .at) _ _ _ (c .before .before .before .before .before .before .before .before .access .result) _ (rw (w, to-end 2 (a .body .now)) at (d .0)) (c .before .before .before .before .before .if1 .taken) (rw (w, to-end 2 (a .body .now)) at (d .1)) (simp length-drop (omega arith)) (rw w at (c .before .before .answer-line .ensures))
 
--- src/lib.rt:77:9
 refusal-line-requires : tie.Need-refusal-line-requires
 refusal-line-requires c κs = search needs
 
--- src/lib.rt:63:1
 same-length-2 : tie.Need-same-length-2
 same-length-2 c = search needs
 
--- src/lib.rt:63:1
 returns-2 : tie.Need-returns-2
 returns-2 c =
     let a = c .before .before .before .before .before .before .before .before .before .before .before .before .before .args in

@@ -1,26 +1,20 @@
-use mathlib.Core.Path.{refl}
+-- `script::given` meets its contract. Assumes nothing.
 use native.Mathlib.Omega.{arith}
+use mathlib.Core.Path.{refl}
 use borrow.Author.Tests.{eq-eqb, ne-eqb}
 use borrow.Author.Needs.{needs}
 use Rattle.script.proofs.given.Statement.{statement}
 use Rattle.script.proofs.given.Tie as tie
-use Rattle.script.proofs.given.Reads as reads
-use Rattle.script.proofs.given.Lts as lts
-use Rattle.script.proofs.lines.refusal_line.Reads as refusal-line-reads
 
--- src/lib.rt:56:9
 returns : tie.Need-returns
 returns c = record { row-after = refl; line = rw (eq-eqb _ 0 (c .if1 .taken)) (record { bytes = refl; place = omega arith }); short = omega arith }
 
--- src/lib.rt:58:9
 refusal-line-requires : tie.Need-refusal-line-requires
 refusal-line-requires c κs = search needs
 
--- src/lib.rt:49:1
 same-length : tie.Need-same-length
 same-length c = search needs
 
--- src/lib.rt:49:1
 returns-2 : tie.Need-returns-2
 returns-2 c = record { row-after = refl; line = rw (ne-eqb _ 0 (c .before .before .before .before .if1 .left)) (c .before .before .refusal-line .ensures); short = omega (arith, c .before .before .refusal-line .ensures .place) }
 

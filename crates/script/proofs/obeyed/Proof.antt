@@ -1,122 +1,88 @@
+-- `script::obeyed` meets its contract. Assumes nothing.
 use native.Mathlib.Omega.{arith}
 use lib.ListN.{length}
 use borrow.Author.Tests.{leb-true}
+use borrow.Author.Needs.{needs}
 use Rattle.script.proofs.FormatLaws.{show-length, show-call}
 use Rattle.script.proofs.RunLaws.{given-obeyed}
-use borrow.Author.Needs.{needs}
 use Rattle.script.proofs.obeyed.Statement.{statement}
 use Rattle.script.proofs.obeyed.Tie as tie
-use Rattle.script.proofs.obeyed.Reads as reads
-use Rattle.script.proofs.obeyed.Lts as lts
-use Rattle.row.proofs.Row.add_clocks.Reads as add-clocks-reads
-use Rattle.row.proofs.Row.scan.Reads as scan-reads
-use Rattle.row.proofs.Row.set_pins.Reads as set-pins-reads
-use Rattle.script.proofs.accessed.Reads as accessed-reads
-use Rattle.script.proofs.format.byte.Reads as byte-reads
-use Rattle.script.proofs.format.word.Reads as word-reads
-use Rattle.script.proofs.given.Reads as given-reads
-use Rattle.script.proofs.shown.Reads as shown-reads
 
--- src/lib.rt:105:14
 accessed-requires : tie.Need-accessed-requires
 accessed-requires c κs =
     let a = c .before .before .before .before .before .args in
     let p = c .before .before .before .before .before .pre in
     (leb-true 2 (length (a .body .now)) (rw (c .before .match .keys1) at (p .0)), search needs)
 
--- src/lib.rt:107:26
 byte-requires : tie.Need-byte-requires
 byte-requires c κs = search needs
 
--- src/lib.rt:107:26
 cast-driver : tie.Need-cast-driver
 cast-driver c = search needs
 
--- src/lib.rt:110:17
 byte-requires-2 : tie.Need-byte-requires-2
 byte-requires-2 c κs = search needs
 
--- src/lib.rt:111:17
 byte-requires-3 : tie.Need-byte-requires-3
 byte-requires-3 c κs = search needs
 
--- src/lib.rt:112:17
 byte-requires-4 : tie.Need-byte-requires-4
 byte-requires-4 c κs = search needs
 
--- src/lib.rt:113:17
 byte-requires-5 : tie.Need-byte-requires-5
 byte-requires-5 c κs = search needs
 
--- src/lib.rt:108:17
 scan-requires : tie.Need-scan-requires
 scan-requires c κs = search needs
 
--- src/lib.rt:115:13
 given-requires : tie.Need-given-requires
 given-requires c κs = search needs
 
--- src/lib.rt:118:26
 byte-requires-6 : tie.Need-byte-requires-6
 byte-requires-6 c κs = search needs
 
--- src/lib.rt:118:26
 cast-driver-2 : tie.Need-cast-driver-2
 cast-driver-2 c = search needs
 
--- src/lib.rt:119:45
 byte-requires-7 : tie.Need-byte-requires-7
 byte-requires-7 c κs = search needs
 
--- src/lib.rt:119:45
 cast-set-pins : tie.Need-cast-set-pins
 cast-set-pins c = search needs
 
--- src/lib.rt:119:17
 set-pins-requires : tie.Need-set-pins-requires
 set-pins-requires c κs = search needs
 
--- src/lib.rt:120:13
 given-requires-2 : tie.Need-given-requires-2
 given-requires-2 c κs = search needs
 
--- src/lib.rt:123:26
 byte-requires-8 : tie.Need-byte-requires-8
 byte-requires-8 c κs = search needs
 
--- src/lib.rt:123:26
 cast-driver-3 : tie.Need-cast-driver-3
 cast-driver-3 c = search needs
 
--- src/lib.rt:124:34
 word-requires : tie.Need-word-requires
 word-requires c κs = search needs
 
--- src/lib.rt:124:26
 mul-clocks : tie.Need-mul-clocks
 mul-clocks c = search needs
 
--- src/lib.rt:124:50
 word-requires-2 : tie.Need-word-requires-2
 word-requires-2 c κs = search needs
 
--- src/lib.rt:124:26
 add-clocks : tie.Need-add-clocks
 add-clocks c = search needs
 
--- src/lib.rt:125:47
 cast-add-clocks : tie.Need-cast-add-clocks
 cast-add-clocks c = search needs
 
--- src/lib.rt:125:17
 add-clocks-requires : tie.Need-add-clocks-requires
 add-clocks-requires c κs = search needs
 
--- src/lib.rt:126:13
 given-requires-3 : tie.Need-given-requires-3
 given-requires-3 c κs = search needs
 
--- src/lib.rt:128:14
 shown-requires : tie.Need-shown-requires
 shown-requires c κs =
     let a = c .before .before .before .before .before .args in
@@ -125,49 +91,39 @@ shown-requires c κs =
     let two = show-length (a .kind) (length (a .body .now)) (p .0) (p .1) (m .0 .0 .0 .1) (m .0 .0 .1) (m .0 .1) (m .1) in
     (p .2, omega arith)
 
--- src/lib.rt:100:1
 same-length : tie.Need-same-length
 same-length c = search needs
 
--- src/lib.rt:100:1
 returns : tie.Need-returns
 returns c = rw (c .before .before .before .before .match .keys1) (c .before .before .accessed .ensures)
 
--- src/lib.rt:100:1
 same-length-2 : tie.Need-same-length-2
 same-length-2 c = search needs
 
--- src/lib.rt:100:1
 returns-2 : tie.Need-returns-2
 returns-2 c =
     let a = c .before .before .before .before .before .before .before .before .before .before .before .before .before .before .args in
     rw (c .before .before .before .before .before .before .before .before .before .before .match .keys2) (given-obeyed (a .row) _ _ _ (a .at) _ _ (c .before .before .before .before .scan .result) _ (rw (c .before .before .before .before .before .before .before .before .before .byte .ensures, c .before .before .before .before .before .before .before .before .byte2 .ensures, c .before .before .before .before .before .before .before .byte3 .ensures, c .before .before .before .before .before .before .byte4 .ensures, c .before .before .before .before .before .byte5 .ensures) at (c .before .before .before .before .scan .ensures)) (omega arith) (c .before .before .given .ensures))
 
--- src/lib.rt:100:1
 same-length-3 : tie.Need-same-length-3
 same-length-3 c = search needs
 
--- src/lib.rt:100:1
 returns-3 : tie.Need-returns-3
 returns-3 c =
     let a = c .before .before .before .before .before .before .before .before .before .before .before .args in
     rw (c .before .before .before .before .before .before .before .match .keys3) (given-obeyed (a .row) _ _ _ (a .at) _ _ (c .before .before .before .before .set-pins .result) _ (rw (c .before .before .before .before .before .before .byte6 .ensures, c .before .before .before .before .before .byte7 .ensures) at (c .before .before .before .before .set-pins .ensures)) (omega arith) (c .before .before .given2 .ensures))
 
--- src/lib.rt:100:1
 same-length-4 : tie.Need-same-length-4
 same-length-4 c = search needs
 
--- src/lib.rt:100:1
 returns-4 : tie.Need-returns-4
 returns-4 c =
     let a = c .before .before .before .before .before .before .before .before .before .before .before .before .args in
     rw (c .before .before .before .before .before .before .before .before .match .keys4) (given-obeyed (a .row) _ _ _ (a .at) _ _ (c .before .before .before .before .add-clocks .result) _ (rw (c .before .before .before .before .before .before .before .byte8 .ensures, c .before .before .before .before .before .before .word .ensures .0, c .before .before .before .before .before .word2 .ensures .0) at (c .before .before .before .before .add-clocks .ensures)) (omega arith) (c .before .before .given3 .ensures))
 
--- src/lib.rt:100:1
 same-length-5 : tie.Need-same-length-5
 same-length-5 c = search needs
 
--- src/lib.rt:100:1
 returns-5 : tie.Need-returns-5
 returns-5 c =
     let a = c .before .before .before .before .before .before .before .before .args in

@@ -1,34 +1,25 @@
+-- `script::run` meets its contract. Assumes nothing.
 use native.Mathlib.Omega.{arith}
 use borrow.Author.Tests.{lt-ltb, le-ltb}
-use Rattle.script.proofs.StartLaws.{too-little, ran, printed-long, printed-items}
 use borrow.Author.Needs.{needs}
+use Rattle.script.proofs.StartLaws.{too-little, ran, printed-long, printed-items}
 use Rattle.script.proofs.run.Statement.{statement}
 use Rattle.script.proofs.run.Tie as tie
-use Rattle.script.proofs.run.Reads as reads
-use Rattle.script.proofs.run.Lts as lts
-use Rattle.script.proofs.lines.refusal_line.Reads as refusal-line-reads
-use Rattle.script.proofs.print.Reads as print-reads
-use Rattle.script.proofs.room_for.Reads as room-for-reads
 
--- src/lib.rt:213:20
 room-for-requires : tie.Need-room-for-requires
 room-for-requires c κs = search needs
 
--- src/lib.rt:214:9
 returns : tie.Need-returns
 returns c = too-little (c .before .before .before .before .args .script .now) (c .before .before .before .before .args .out .now) (rw (c .before .room-for .ensures) at (c .if1 .taken))
 
--- src/lib.rt:222:21
 refusal-line-requires : tie.Need-refusal-line-requires
 refusal-line-requires c κs =
     let r = c .before .before .before .room-for .ensures in
     omega (arith, rw (lt-ltb _ _ (c .before .if2 .taken)) at r, c .before .before .if1 .left)
 
--- src/lib.rt:220:9
 same-length : tie.Need-same-length
 same-length c = search needs
 
--- src/lib.rt:220:9
 returns-2 : tie.Need-returns-2
 returns-2 c =
     let a = c .before .before .before .before .before .before .before .before .before .args in
@@ -37,17 +28,14 @@ returns-2 c =
     let long = c .before .before .before .before .if2 .taken in
     ran (a .script .now) (a .out .now) _ _ (rw (← r) (c .before .before .before .before .before .if1 .left)) (rw (printed-long (a .script .now) long) v) (omega (arith, v .place, rw (lt-ltb _ _ long) at r, c .before .before .before .before .before .if1 .left))
 
--- src/lib.rt:227:17
 print-requires : tie.Need-print-requires
 print-requires c κs =
     let r = c .before .before .before .room-for .ensures in
     omega (arith, rw (le-ltb _ _ (c .before .if2 .left)) at r, c .before .before .if1 .left)
 
--- src/lib.rt:210:1
 same-length-2 : tie.Need-same-length-2
 same-length-2 c = search needs
 
--- src/lib.rt:210:1
 returns-3 : tie.Need-returns-3
 returns-3 c =
     let a = c .before .before .before .before .before .before .before .before .before .args in

@@ -1,48 +1,35 @@
+-- `script::shown` meets its contract. Assumes nothing.
 use native.Mathlib.Omega.{arith}
 use mathlib.Core.Path.{ap}
+use borrow.Author.Needs.{needs}
 use Rattle.display.specs.declared.SegmentAnswer.{SegmentAnswer}
 use Rattle.calls.specs.Calls.{segments}
 use Rattle.script.specs.Format.{byte, testTable}
 use Rattle.script.proofs.RunLaws.{asked-done, shown-obeyed, refused}
-use borrow.Author.Needs.{needs}
 use Rattle.script.proofs.shown.Statement.{statement}
 use Rattle.script.proofs.shown.Tie as tie
-use Rattle.script.proofs.shown.Reads as reads
-use Rattle.script.proofs.shown.Lts as lts
-use Rattle.row.proofs.Row.segments.Reads as segments-reads
-use Rattle.script.proofs.format.byte.Reads as byte-reads
-use Rattle.script.proofs.lines.refusal_line.Reads as refusal-line-reads
-use Rattle.script.proofs.lines.show_line.Reads as show-line-reads
 
--- src/lib.rt:86:18
 byte-requires : tie.Need-byte-requires
 byte-requires c κs = search needs
 
--- src/lib.rt:86:18
 cast-driver : tie.Need-cast-driver
 cast-driver c = search needs
 
--- src/lib.rt:87:19
 byte-requires-2 : tie.Need-byte-requires-2
 byte-requires-2 c κs = search needs
 
--- src/lib.rt:87:19
 cast-cathode : tie.Need-cast-cathode
 cast-cathode c = search needs
 
--- src/lib.rt:88:9
 segments-requires : tie.Need-segments-requires
 segments-requires c κs = search needs
 
--- src/lib.rt:92:13
 show-line-requires : tie.Need-show-line-requires
 show-line-requires c κs = search needs
 
--- src/lib.rt:93:9
 same-length : tie.Need-same-length
 same-length c = search needs
 
--- src/lib.rt:93:9
 returns : tie.Need-returns
 returns c =
     let a = c .before .before .before .before .before .before .before .before .before .before .before .before .args in
@@ -50,15 +37,12 @@ returns c =
     let e = rw (c .before .before .before .before .before .before .before .before .byte .ensures, c .before .before .before .before .before .before .before .byte2 .ensures, c .before .before .before .before .before .before .before .before .before .before .before .before .pre .0) at (s .ensures) in
     shown-obeyed (a .row) (byte (a .body .now) 0) (segments (byte (a .body .now) 1) testTable testTable) 7 (a .at) _ _ (s .result .pins) (s .result .number) _ (ap (λ (x : SegmentAnswer). x .number) e) (c .before .before .before .before .before .if1 .taken) (ap (λ (x : SegmentAnswer). x .pins) e) (search needs) (omega arith) (c .before .before .show-line .ensures)
 
--- src/lib.rt:95:9
 refusal-line-requires : tie.Need-refusal-line-requires
 refusal-line-requires c κs = search needs
 
--- src/lib.rt:82:1
 same-length-2 : tie.Need-same-length-2
 same-length-2 c = search needs
 
--- src/lib.rt:82:1
 returns-2 : tie.Need-returns-2
 returns-2 c =
     let a = c .before .before .before .before .before .before .before .before .before .before .before .args in

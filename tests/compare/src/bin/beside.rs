@@ -49,14 +49,9 @@ fn accesses() {
 
 /// Sent bytes: writes to every digit in turn.
 fn digit_writes(clocks: usize) -> Vec<u8> {
-    let byte = |i: usize| {
-        if i % 2 == 0 {
-            0x20 + i / 2 % 16
-        } else {
-            i * 37
-        }
-    };
-    (0..clocks.div_ceil(8)).map(|i| byte(i) as u8).collect()
+    let words = (0..clocks).flat_map(|word| [0x20 + word % 16, 74 * word + 37]);
+    let bytes = words.take(clocks.div_ceil(8));
+    bytes.map(|byte| byte as u8).collect()
 }
 
 /// The best of several rounds, in seconds a turn.

@@ -1,34 +1,26 @@
+-- `script::format::length_fits` meets its contract. Assumes nothing.
 use Rattle.words.proofs.Tests.{tests}
 use Rattle.script.proofs.format.length_fits.Statement.{statement}
 use Rattle.script.proofs.format.length_fits.Tie as tie
-use Rattle.script.proofs.format.length_fits.Reads as reads
-use Rattle.script.proofs.format.length_fits.Lts as lts
 
--- src/format.rt:25:1
 returns : tie.Need-returns
 returns c = simp (c .match .keys1)
 
--- src/format.rt:25:1
 returns-2 : tie.Need-returns-2
 returns-2 c = simp (c .match .keys2)
 
--- src/format.rt:25:1
 returns-3 : tie.Need-returns-3
 returns-3 c = simp (c .match .keys3)
 
--- src/format.rt:25:1
 returns-4 : tie.Need-returns-4
 returns-4 c = simp (c .match .keys4)
 
--- src/format.rt:25:1
 returns-5 : tie.Need-returns-5
 returns-5 c = simp (c .match .keys5)
 
--- src/format.rt:25:1
 returns-6 : tie.Need-returns-6
 returns-6 c = simp (c .match .keys6)
 
--- src/format.rt:25:1
 returns-7 : tie.Need-returns-7
 returns-7 c = search tests
 

@@ -1,58 +1,42 @@
-use Rattle.words.proofs.Tests.{tests}
+-- `script::format::record_size` meets its contract. Assumes nothing.
 use borrow.Author.Needs.{needs}
+use Rattle.words.proofs.Tests.{tests}
 use Rattle.script.proofs.format.record_size.Statement.{statement}
 use Rattle.script.proofs.format.record_size.Tie as tie
-use Rattle.script.proofs.format.record_size.Reads as reads
-use Rattle.script.proofs.format.record_size.Lts as lts
-use Rattle.script.proofs.format.byte.Reads as byte-reads
-use Rattle.script.proofs.format.length_fits.Reads as length-fits-reads
-use Rattle.script.proofs.format.word.Reads as word-reads
 
--- src/format.rt:46:9
 returns : tie.Need-returns
 returns c = search tests
 
--- src/format.rt:48:8
 byte-requires : tie.Need-byte-requires
 byte-requires c κs = search needs
 
--- src/format.rt:49:9
 returns-2 : tie.Need-returns-2
 returns-2 c = rw (← c .before .byte .ensures) (search tests)
 
--- src/format.rt:51:8
 byte-requires-2 : tie.Need-byte-requires-2
 byte-requires-2 c κs = search needs
 
--- src/format.rt:52:9
 returns-3 : tie.Need-returns-3
 returns-3 c = rw (← c .before .before .before .byte .ensures, ← c .before .byte2 .ensures) (search tests)
 
--- src/format.rt:54:9
 word-requires : tie.Need-word-requires
 word-requires c κs = search needs
 
--- src/format.rt:55:16
 add-size : tie.Need-add-size
 add-size c = search needs
 
--- src/format.rt:57:9
 returns-4 : tie.Need-returns-4
 returns-4 c = rw (← c .before .before .before .before .before .byte .ensures, ← c .before .before .before .byte2 .ensures, ← c .before .word .ensures .0) (search tests)
 
--- src/format.rt:59:20
 byte-requires-3 : tie.Need-byte-requires-3
 byte-requires-3 c κs = search needs
 
--- src/format.rt:59:8
 length-fits-requires : tie.Need-length-fits-requires
 length-fits-requires c κs = search needs
 
--- src/format.rt:42:1
 returns-5 : tie.Need-returns-5
 returns-5 c = rw (← c .before .before .before .before .before .before .before .before .byte .ensures, ← c .before .before .before .before .before .before .byte2 .ensures, ← c .before .before .before .before .word .ensures .0, ← c .before .before .byte3 .ensures, ← c .before .length-fits .ensures, c .if5 .taken) (search tests)
 
--- src/format.rt:42:1
 returns-6 : tie.Need-returns-6
 returns-6 c = rw (← c .before .before .before .before .before .before .before .before .byte .ensures, ← c .before .before .before .before .before .before .byte2 .ensures, ← c .before .before .before .before .word .ensures .0, ← c .before .before .byte3 .ensures, ← c .before .length-fits .ensures, c .if5 .left) (search tests)
 

@@ -1,75 +1,59 @@
+-- `script::lines::answer_line` meets its contract. Assumes nothing.
 use native.Mathlib.Numerals.{towards-suc}
 use native.Mathlib.Omega.{arith}
 use mathlib.Core.Path.{refl}
 use lib.ListN.{length-set}
+use borrow.Author.Needs.{needs}
 use Rattle.script.specs.Lines.{each, hexByte}
 use Rattle.script.proofs.RoomLaws.{length-each, line-ends, newline-fits, line-length, line-written, answer-none, answer-some}
-use borrow.Author.Needs.{needs}
 use Rattle.script.proofs.lines.answer_line.Statement.{statement}
 use Rattle.script.proofs.lines.answer_line.Tie as tie
-use Rattle.script.proofs.lines.answer_line.Reads as reads
-use Rattle.script.proofs.lines.answer_line.Lts as lts
-use Rattle.script.proofs.lines.hex_bytes.Reads as hex-bytes-reads
 
--- src/lines.rt:80:5
 slice-write-out : tie.Need-slice-write-out
 slice-write-out c = search needs
 
--- src/lines.rt:82:13
 add-out : tie.Need-add-out
 add-out c = search needs
 
--- src/lines.rt:82:9
 slice-write-out-2 : tie.Need-slice-write-out-2
 slice-write-out-2 c = simp length-set (omega arith)
 
--- src/lines.rt:83:16
 add-result : tie.Need-add-result
 add-result c = search needs
 
--- src/lines.rt:83:9
 same-length : tie.Need-same-length
 same-length c = search needs
 
--- src/lines.rt:83:9
 returns : tie.Need-returns
 returns c = rw (answer-none _ (c .if1 .taken)) (record { bytes = simp towards-suc; place = refl })
 
--- src/lines.rt:85:9
 add-out-2 : tie.Need-add-out-2
 add-out-2 c = search needs
 
--- src/lines.rt:85:5
 slice-write-out-3 : tie.Need-slice-write-out-3
 slice-write-out-3 c = simp length-set (omega arith)
 
--- src/lines.rt:86:37
 add-hex-bytes : tie.Need-add-hex-bytes
 add-hex-bytes c = search needs
 
--- src/lines.rt:86:9
 hex-bytes-requires : tie.Need-hex-bytes-requires
 hex-bytes-requires c κs = simp length-set (omega arith)
 
--- src/lines.rt:87:5
 slice-write-out-4 : tie.Need-slice-write-out-4
 slice-write-out-4 c =
     let a = c .before .before .before .before .before .before .before .args in
     newline-fits 65 32 (each hexByte (a .bytes .now)) (a .out .now) (a .at) _ _ (c .before .before .hex-bytes .ensures) (omega (arith, length-each hexByte 2 (λ x. refl) (a .bytes .now)))
 
--- src/lines.rt:88:5
 add-result-2 : tie.Need-add-result-2
 add-result-2 c =
     let a = c .before .before .before .before .before .before .before .args in
     omega (arith, line-ends 65 32 (each hexByte (a .bytes .now)) (a .out .now) (a .at) _ _ (c .before .before .hex-bytes .ensures) (omega (arith, length-each hexByte 2 (λ x. refl) (a .bytes .now))))
 
--- src/lines.rt:76:1
 same-length-2 : tie.Need-same-length-2
 same-length-2 c =
     let a = c .before .before .before .before .before .before .before .args in
     line-length 65 32 (each hexByte (a .bytes .now)) (a .out .now) (a .at) _ _ (c .before .before .hex-bytes .ensures)
 
--- src/lines.rt:76:1
 returns-2 : tie.Need-returns-2
 returns-2 c =
     let a = c .before .before .before .before .before .before .before .args in

@@ -1,131 +1,99 @@
-use borrow.Author.Tests.{lt-ltb, le-ltb}
+-- `script::lines::chain_line` meets its contract. Assumes nothing.
 use native.Mathlib.Numerals.{towards-suc}
-use lib.ListN.{length-set}
 use native.Mathlib.Omega.{arith}
+use lib.ListN.{length-set}
+use borrow.Author.Tests.{lt-ltb, le-ltb}
 use borrow.Author.Needs.{needs}
 use Rattle.script.proofs.lines.chain_line.Statement.{statement}
 use Rattle.script.proofs.lines.chain_line.Tie as tie
-use Rattle.script.proofs.lines.chain_line.Reads as reads
-use Rattle.script.proofs.lines.chain_line.Lts as lts
-use Rattle.script.proofs.lines.digit.Reads as digit-reads
 
--- src/lines.rt:21:5
 slice-write-out : tie.Need-slice-write-out
 slice-write-out c = search needs
 
--- src/lines.rt:22:9
 add-out : tie.Need-add-out
 add-out c = search needs
 
--- src/lines.rt:22:5
 slice-write-out-2 : tie.Need-slice-write-out-2
 slice-write-out-2 c = simp length-set (omega arith)
 
--- src/lines.rt:23:9
 add-out-2 : tie.Need-add-out-2
 add-out-2 c = search needs
 
--- src/lines.rt:23:5
 slice-write-out-3 : tie.Need-slice-write-out-3
 slice-write-out-3 c = simp length-set (omega arith)
 
--- src/lines.rt:24:9
 add-out-3 : tie.Need-add-out-3
 add-out-3 c = search needs
 
--- src/lines.rt:24:5
 slice-write-out-4 : tie.Need-slice-write-out-4
 slice-write-out-4 c = simp length-set (omega arith)
 
--- src/lines.rt:25:9
 add-out-4 : tie.Need-add-out-4
 add-out-4 c = search needs
 
--- src/lines.rt:25:5
 slice-write-out-5 : tie.Need-slice-write-out-5
 slice-write-out-5 c = simp length-set (omega arith)
 
--- src/lines.rt:26:9
 add-out-5 : tie.Need-add-out-5
 add-out-5 c = search needs
 
--- src/lines.rt:26:5
 slice-write-out-6 : tie.Need-slice-write-out-6
 slice-write-out-6 c = simp length-set (omega arith)
 
--- src/lines.rt:28:23
 digit-requires : tie.Need-digit-requires
 digit-requires c κs = search needs
 
--- src/lines.rt:28:13
 add-out-6 : tie.Need-add-out-6
 add-out-6 c = search needs
 
--- src/lines.rt:28:9
 slice-write-out-7 : tie.Need-slice-write-out-7
 slice-write-out-7 c = simp length-set (omega arith)
 
--- src/lines.rt:29:13
 add-out-7 : tie.Need-add-out-7
 add-out-7 c = search needs
 
--- src/lines.rt:29:9
 slice-write-out-8 : tie.Need-slice-write-out-8
 slice-write-out-8 c = simp length-set (omega arith)
 
--- src/lines.rt:30:16
 add-result : tie.Need-add-result
 add-result c = search needs
 
--- src/lines.rt:30:9
 same-length : tie.Need-same-length
 same-length c = search needs
 
--- src/lines.rt:30:9
 returns : tie.Need-returns
 returns c = record { bytes = simp (towards-suc, lt-ltb _ _ (c .before .if1 .taken), c .digit .ensures); place = rw (lt-ltb _ _ (c .before .if1 .taken)) }
 
--- src/lines.rt:32:19
 digit-requires-2 : tie.Need-digit-requires-2
 digit-requires-2 c κs = search needs
 
--- src/lines.rt:32:9
 add-out-8 : tie.Need-add-out-8
 add-out-8 c = search needs
 
--- src/lines.rt:32:5
 slice-write-out-9 : tie.Need-slice-write-out-9
 slice-write-out-9 c = simp length-set (omega arith)
 
--- src/lines.rt:33:19
 digit-requires-3 : tie.Need-digit-requires-3
 digit-requires-3 c κs = search needs
 
--- src/lines.rt:33:9
 add-out-9 : tie.Need-add-out-9
 add-out-9 c = search needs
 
--- src/lines.rt:33:5
 slice-write-out-10 : tie.Need-slice-write-out-10
 slice-write-out-10 c = simp length-set (omega arith)
 
--- src/lines.rt:34:9
 add-out-10 : tie.Need-add-out-10
 add-out-10 c = search needs
 
--- src/lines.rt:34:5
 slice-write-out-11 : tie.Need-slice-write-out-11
 slice-write-out-11 c = simp length-set (omega arith)
 
--- src/lines.rt:35:5
 add-result-2 : tie.Need-add-result-2
 add-result-2 c = search needs
 
--- src/lines.rt:17:1
 same-length-2 : tie.Need-same-length-2
 same-length-2 c = search needs
 
--- src/lines.rt:17:1
 returns-2 : tie.Need-returns-2
 returns-2 c = record { bytes = simp (towards-suc, le-ltb _ _ (c .before .before .if1 .left), c .before .digit2 .ensures, c .digit3 .ensures); place = rw (le-ltb _ _ (c .before .before .if1 .left)) }
 

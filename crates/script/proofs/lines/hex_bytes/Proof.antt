@@ -1,15 +1,13 @@
-use native.Mathlib.Numerals.{towards-suc}
+-- `script::lines::hex_bytes` meets its contract. Assumes nothing.
 use Prim.Native.Nat.{_+_, _*_, _-_, _≤_}
+use native.Mathlib.Numerals.{towards-suc}
 use native.Mathlib.Omega.{arith}
 use mathlib.Core.Path.{_≡_, refl}
 use lib.ListN.{length, drop, getD, length-set, drop-of-length-le}
-use Rattle.script.proofs.RoomLaws.{Left, all-written, part-written, each-next}
 use Rattle.script.specs.Lines.{each, hexByte}
+use Rattle.script.proofs.RoomLaws.{Left, all-written, part-written, each-next}
 use Rattle.script.proofs.lines.hex_bytes.Statement.{statement}
 use Rattle.script.proofs.lines.hex_bytes.Tie as tie
-use Rattle.script.proofs.lines.hex_bytes.Reads as reads
-use Rattle.script.proofs.lines.hex_bytes.Lts as lts
-use Rattle.script.proofs.lines.hex_digit.Reads as hex-digit-reads
 
 abbrev Inv-loop : tie.InvT-loop
 Inv-loop bytes out₀ at place₀ i₀ out place i =
@@ -18,58 +16,45 @@ Inv-loop bytes out₀ at place₀ i₀ out place i =
 abbrev μ-loop : tie.MeasureT-loop
 μ-loop bytes out₀ at place₀ i₀ out place i = length bytes - i
 
--- src/lines.rt:65:5
 loop-holds : tie.Need-loop-holds Inv-loop μ-loop
 loop-holds c = (omega arith, refl, omega arith, record { bytes = refl; end = refl })
 
--- src/lines.rt:66:17
 shared-slice-read-b : tie.Need-shared-slice-read-b Inv-loop μ-loop
 shared-slice-read-b c = omega arith
 
--- src/lines.rt:67:22
 hex-digit-requires : tie.Need-hex-digit-requires Inv-loop μ-loop
 hex-digit-requires c κs = omega (arith, c .shared-slice-known2 .given (c .before .before .loop .i))
 
--- src/lines.rt:67:9
 slice-write-out : tie.Need-slice-write-out Inv-loop μ-loop
 slice-write-out c = omega arith
 
--- src/lines.rt:68:26
 hex-digit-requires-2 : tie.Need-hex-digit-requires-2 Inv-loop μ-loop
 hex-digit-requires-2 c κs = omega arith
 
--- src/lines.rt:68:13
 add-out : tie.Need-add-out Inv-loop μ-loop
 add-out c = omega arith
 
--- src/lines.rt:68:9
 slice-write-out-2 : tie.Need-slice-write-out-2 Inv-loop μ-loop
 slice-write-out-2 c = simp length-set (omega arith)
 
--- src/lines.rt:69:9
 add-place : tie.Need-add-place Inv-loop μ-loop
 add-place c = omega arith
 
--- src/lines.rt:70:9
 add-i : tie.Need-add-i Inv-loop μ-loop
 add-i c = omega arith
 
--- src/lines.rt:65:5
 loop-less : tie.Need-loop-less Inv-loop μ-loop
 loop-less c = omega arith
 
--- src/lines.rt:65:5
 loop-again : tie.Need-loop-again Inv-loop μ-loop
 loop-again c =
     let a = c .before .before .before .before .before .before .before .args in
     let l = c .before .before .before .before .loop in
     (omega arith, simp length-set (l .inv .1), omega arith, part-written _ _ _ (hexByte (getD (a .bytes .now) (l .i) 0)) _ _ _ _ _ (rw (each-next hexByte (a .bytes .now) (l .i) (omega arith)) at (l .inv .3)) (record { bytes = simp (towards-suc, c .before .hex-digit .ensures, c .hex-digit2 .ensures); place = refl }))
 
--- src/lines.rt:59:1
 same-length : tie.Need-same-length Inv-loop μ-loop
 same-length c = c .before .loop .inv .1
 
--- src/lines.rt:59:1
 returns : tie.Need-returns Inv-loop μ-loop
 unfolding each
 returns c =

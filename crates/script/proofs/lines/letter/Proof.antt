@@ -1,22 +1,17 @@
+-- `script::lines::letter` meets its contract. Assumes nothing.
 use Rattle.words.proofs.Tests.{tests}
 use Rattle.script.proofs.lines.letter.Statement.{statement}
 use Rattle.script.proofs.lines.letter.Tie as tie
-use Rattle.script.proofs.lines.letter.Reads as reads
-use Rattle.script.proofs.lines.letter.Lts as lts
 
--- src/lines.rt:92:1
 returns : tie.Need-returns
 returns c = simp (c .match .keys1)
 
--- src/lines.rt:92:1
 returns-2 : tie.Need-returns-2
 returns-2 c = simp (c .match .keys2)
 
--- src/lines.rt:92:1
 returns-3 : tie.Need-returns-3
 returns-3 c = simp (c .match .keys3)
 
--- src/lines.rt:92:1
 returns-4 : tie.Need-returns-4
 returns-4 c = search tests
 

@@ -1,3 +1,4 @@
+-- `script::lines::letters` meets its contract. Assumes nothing.
 use Prim.Native.Nat.{_+_, _-_, _≤_}
 use native.Mathlib.Omega.{arith}
 use mathlib.Core.Path.{_≡_, refl}
@@ -7,9 +8,6 @@ use Rattle.script.specs.Lines.{each, pinText}
 use Rattle.script.proofs.RoomLaws.{Left, all-written, part-written, each-next}
 use Rattle.script.proofs.lines.letters.Statement.{statement}
 use Rattle.script.proofs.lines.letters.Tie as tie
-use Rattle.script.proofs.lines.letters.Reads as reads
-use Rattle.script.proofs.lines.letters.Lts as lts
-use Rattle.script.proofs.lines.letter.Reads as letter-reads
 
 abbrev Inv-loop : tie.InvT-loop
 Inv-loop out₀ at pins place₀ p₀ out place p =
@@ -18,46 +16,36 @@ Inv-loop out₀ at pins place₀ p₀ out place p =
 abbrev μ-loop : tie.MeasureT-loop
 μ-loop out₀ at pins place₀ p₀ out place p = 19 - p
 
--- src/lines.rt:110:5
 loop-holds : tie.Need-loop-holds Inv-loop μ-loop
 loop-holds c = (omega arith, refl, omega arith, record { bytes = refl; end = refl })
 
--- src/lines.rt:111:29
 array-read-letter : tie.Need-array-read-letter Inv-loop μ-loop
 array-read-letter c = omega arith
 
--- src/lines.rt:111:22
 letter-requires : tie.Need-letter-requires Inv-loop μ-loop
 letter-requires c κs = search needs
 
--- src/lines.rt:111:9
 slice-write-out : tie.Need-slice-write-out Inv-loop μ-loop
 slice-write-out c = omega arith
 
--- src/lines.rt:112:9
 add-place : tie.Need-add-place Inv-loop μ-loop
 add-place c = omega arith
 
--- src/lines.rt:113:9
 add-p : tie.Need-add-p Inv-loop μ-loop
 add-p c = omega arith
 
--- src/lines.rt:110:5
 loop-less : tie.Need-loop-less Inv-loop μ-loop
 loop-less c = omega arith
 
--- src/lines.rt:110:5
 loop-again : tie.Need-loop-again Inv-loop μ-loop
 loop-again c =
     let a = c .before .before .before .before .args in
     let l = c .before .before .loop in
     (omega arith, simp length-set (l .inv .1), omega arith, part-written _ _ _ (pinText (getD (a .t1) (l .p) 0)) _ _ _ _ _ (rw (each-next pinText (a .t1) (l .p) (search needs)) at (l .inv .3)) (record { bytes = simp (c .letter .ensures); place = refl }))
 
--- src/lines.rt:104:1
 same-length : tie.Need-same-length Inv-loop μ-loop
 same-length c = c .before .loop .inv .1
 
--- src/lines.rt:104:1
 returns : tie.Need-returns Inv-loop μ-loop
 unfolding each
 returns c =

@@ -3,7 +3,7 @@
 use crate::by_hand::SCRIPTS;
 use crate::convert::hex;
 use crate::damage::damage;
-use crate::drafts::{fill, script, Pieces, LONGEST};
+use crate::drafts::{fill, record, script, Pieces, LONGEST};
 use crate::random::Random;
 use crate::report::{shrink, Lines, Part};
 use std::collections::BTreeMap;
@@ -116,8 +116,9 @@ fn draft(seed: u64, case: usize) -> Pieces {
         99 => fill(&mut random, n, &mut pieces, LONGEST),
         199 => fill(&mut random, n, &mut pieces, LONGEST + 1),
         299 => {
-            let more = 2 + random.below(LONGEST);
+            let more = random.below(LONGEST);
             fill(&mut random, n, &mut pieces, LONGEST + more);
+            pieces.insert(0, record(1, &[random.pick(&[0, 1, 17])]));
         }
         _ => {}
     }

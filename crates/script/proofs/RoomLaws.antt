@@ -2,11 +2,11 @@
 -- Assumes nothing.
 use Prim.Native.Nat.{ℕ, suc, _+_, _*_, _≤_, _<_}
 use native.Mathlib.Nat.{zero-add, add-zero, add-suc, suc-add}
-use native.Mathlib.Numerals.{add-one, towards-suc}
+use native.Mathlib.Numerals.{add-one}
 use native.Mathlib.Omega.{arith}
 use mathlib.Core.List.{List, [], _∷_, _++_}
 use mathlib.Core.Path.{_≡_, refl, _∙_}
-use lib.ListN.{length, set, drop, getD, length-append, length-set}
+use lib.ListN.{length, set, drop, getD, length-append}
 use lib.Seq.{sets, length-sets, sets-eq, drop-cons}
 use Rattle.script.specs.Lines.{each, hexByte, answerLine}
 use Rattle.script.specs.Steps.{Written}
@@ -47,37 +47,20 @@ part-written text at out p q at′ out′ out″ at″ l w =
       end = omega (arith, l .end, length-append p q);
     }
 
+-- one byte more
+pub drop-next : (xs : List ℕ) (i : ℕ) → i < length xs → drop i xs ≡ getD xs i 0 ∷ drop (i + 1) xs
+drop-next xs i h = rw (add-one, drop-cons xs i 0)
+
 -- the text of one element more
 pub each-next : (f : ℕ → List ℕ) (xs : List ℕ) (i : ℕ) → i < length xs → each f (drop i xs) ≡ f (getD xs i 0) ++ each f (drop (i + 1) xs)
 unfolding each
-each-next f xs i h = rw (add-one, drop-cons xs i 0)
+each-next f xs i h = rw (drop-next xs i h)
 
 -- texts of one length
 pub length-each : (f : ℕ → List ℕ) (k : ℕ) → ((x : ℕ) → length (f x) ≡ k) → (xs : List ℕ) → length (each f xs) ≡ k * length xs
 unfolding each
 length-each f k h [] = omega arith
 length-each f k h (x ∷ xs) = rw (length-append, h x, length-each f k h xs) (omega arith)
-
--- two bytes and a text are written; then a newline
-module _ (x y : ℕ) (text out : List ℕ) (at : ℕ) (out′ : List ℕ) (at′ : ℕ) (w : Written text (at + 2) (set (set out at x) (at + 1) y) out′ at′) where
-  same-room : length out′ ≡ length out
-  same-room = written-length _ _ _ _ _ w ∙ simp length-set
-
-  pub line-ends : at + length text + 3 ≤ length out → at′ < length out
-  line-ends h = omega (arith, w .place)
-
-  pub newline-fits : at + length text + 3 ≤ length out → at′ < length out′
-  newline-fits h = omega (arith, line-ends h, same-room)
-
-  pub line-length : length (set out′ at′ 10) ≡ length out
-  line-length = length-set out′ at′ 10 ∙ same-room
-
-  pub line-written : Written (x ∷ y ∷ text ++ 10 ∷ []) at out (set out′ at′ 10) (at′ + 1)
-  line-written =
-      record {
-        bytes = rw (w .bytes, w .place, ← sets-append text (10 ∷ []) (set (set out at x) (at + 1) y) (at + 2)) (simp towards-suc);
-        place = omega (arith, w .place, length-append text (10 ∷ []));
-      }
 
 -- an answer of no bytes, and of some
 pub answer-none : (bs : List ℕ) → length bs ≡ 0 → answerLine bs ≡ 65 ∷ 10 ∷ []

@@ -5,6 +5,21 @@ ghost use lib.ListN.{length};
 ghost use Rattle.script.specs.Lines.{digit as digitOf, chainLine, refusalLine, hexDigit, hexByte, pinText, each, answerLine, letter as letterOf, showLine};
 ghost use Rattle.script.specs.Steps.{Written};
 
+// Some bytes as they are.
+fn text(bytes: &[u8], out: &mut [u8], at: usize) -> usize
+    requires { ⌜ at + length (now bytes) ≤ length (now out) ⌝ }
+    ensures { λ r. ⌜ Written (now (bytes .entry)) at (now (out .entry)) (now (out .exit)) r ⌝ }
+{
+    let mut place = at;
+    let mut i = 0;
+    while i < bytes.len() {
+        out[place] = bytes[i];
+        place += 1;
+        i += 1;
+    }
+    place
+}
+
 // A decimal digit, the last of v.
 fn digit(v: usize) -> u8
     ensures { λ r. ⌜ r ≡ digitOf v ⌝ }
@@ -17,21 +32,11 @@ pub(crate) fn chain_line(n: usize, out: &mut [u8], at: usize) -> usize
     requires { ⌜ at + 9 ≤ length (now out) ⌝ }
     ensures { λ r. ⌜ Written (chainLine n) at (now (out .entry)) (now (out .exit)) r ⌝ }
 {
-    out[at] = b'c';
-    out[at + 1] = b'h';
-    out[at + 2] = b'a';
-    out[at + 3] = b'i';
-    out[at + 4] = b'n';
-    out[at + 5] = b' ';
+    let end = text(b"chain ", out, at);
     if n < 10 {
-        out[at + 6] = digit(n);
-        out[at + 7] = b'\n';
-        return at + 8;
+        return text(&[digit(n), b'\n'], out, end);
     }
-    out[at + 6] = digit(n / 10);
-    out[at + 7] = digit(n);
-    out[at + 8] = b'\n';
-    at + 9
+    text(&[digit(n / 10), digit(n), b'\n'], out, end)
 }
 
 // `R` and a number below 10.
@@ -39,11 +44,7 @@ pub(crate) fn refusal_line(number: u8, out: &mut [u8], at: usize) -> usize
     requires { ⌜ at + 4 ≤ length (now out) ⌝ }
     ensures { λ r. ⌜ Written (refusalLine number) at (now (out .entry)) (now (out .exit)) r ⌝ }
 {
-    out[at] = b'R';
-    out[at + 1] = b' ';
-    out[at + 2] = digit(number as usize);
-    out[at + 3] = b'\n';
-    at + 4
+    text(&[b'R', b' ', digit(number as usize), b'\n'], out, at)
 }
 
 // An upper-case hex digit.
@@ -76,15 +77,12 @@ pub(crate) fn answer_line(bytes: &[u8], out: &mut [u8], at: usize) -> usize
     requires { ⌜ at + 2 * length (now bytes) + 3 ≤ length (now out) ⌝ }
     ensures { λ r. ⌜ Written (answerLine (now (bytes .entry))) at (now (out .entry)) (now (out .exit)) r ⌝ }
 {
-    out[at] = b'A';
     if bytes.len() == 0 {
-        out[at + 1] = b'\n';
-        return at + 2;
+        return text(b"A\n", out, at);
     }
-    out[at + 1] = b' ';
-    let end = hex_bytes(bytes, out, at + 2);
-    out[end] = b'\n';
-    end + 1
+    let start = text(b"A ", out, at);
+    let end = hex_bytes(bytes, out, start);
+    text(b"\n", out, end)
 }
 
 // A pin's letter.
@@ -119,9 +117,7 @@ pub(crate) fn show_line(pins: [u8; 19], out: &mut [u8], at: usize) -> usize
     requires { ⌜ at + 22 ≤ length (now out) ⌝ }
     ensures { λ r. ⌜ Written (showLine pins) at (now (out .entry)) (now (out .exit)) r ⌝ }
 {
-    out[at] = b'S';
-    out[at + 1] = b' ';
-    let end = letters(pins, out, at + 2);
-    out[end] = b'\n';
-    end + 1
+    let start = text(b"S ", out, at);
+    let end = letters(pins, out, start);
+    text(b"\n", out, end)
 }

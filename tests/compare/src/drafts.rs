@@ -39,7 +39,7 @@ pub fn fill(random: &mut Random, n: usize, pieces: &mut Pieces, length: usize) {
     pieces.push(record(2, &[&[0x00, 0x10], &spare[..]].concat()));
 }
 
-/// A chain record, or none for a chain of 1. Then mostly every driver leaves shutdown.
+/// A chain record, or none for a chain of 1. Then mostly every driver leaves shutdown and gets key groups.
 fn opening(random: &mut Random) -> (usize, Pieces) {
     let mut pieces = Pieces::new();
     let mut n = 1;
@@ -49,12 +49,18 @@ fn opening(random: &mut Random) -> (usize, Pieces) {
         pieces.push(record(1, &[n as u8]));
     }
     if !random.one_in(8) {
-        let words: Vec<u8> = (0..n)
-            .flat_map(|_| [0x04, random.byte() & 0x4C | 0x01])
-            .collect();
-        pieces.push(access(16 * n, &words));
+        pieces.push(to_each(n, || [0x04, random.byte() & 0x4C | 0x01]));
+    }
+    if !random.one_in(4) {
+        pieces.push(to_each(n, || [0x06, random.byte()]));
     }
     (n, pieces)
+}
+
+/// An access with a word for each driver.
+fn to_each(n: usize, mut word: impl FnMut() -> [u8; 2]) -> Vec<u8> {
+    let words: Vec<u8> = (0..n).flat_map(|_| word()).collect();
+    access(16 * n, &words)
 }
 
 /// One call, or several that belong together.
@@ -66,6 +72,8 @@ fn step(random: &mut Random, n: usize, pieces: &mut Pieces) {
             let [a, b, c, d] = words::keys(random);
             let scan = record(3, &[driver, a, b, c, d]);
             pieces.extend(vec![scan; 1 + random.below(3)]);
+            let read = 0x88 + random.byte() % 8;
+            pieces.push(to_each(n, || [random.pick(&[read, 0x85]), 0]));
         }
         6 => pieces.push(record(4, &[driver, within(random, 32)])),
         7 => {

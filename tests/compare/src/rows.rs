@@ -69,10 +69,20 @@ pub fn simplify(row: &[Record], differ: impl Fn(&[Record]) -> bool) -> Vec<Recor
     row
 }
 
-/// A line for each record: its fields that aren't at power-up.
+/// How many records a row has, then the fields that aren't at power-up.
 pub fn told(row: &[Record]) -> Lines {
-    let line = |record| format!("power-up{}", unlike(record, &Record::power_up()));
-    row.iter().map(|record| ("record", line(record))).collect()
+    let length = row.len();
+    let mut lines = vec![(
+        "row",
+        format!("{length} records, at power-up but for these"),
+    )];
+    for (driver, record) in (1..).zip(row) {
+        let fields = unlike(record, &Record::power_up());
+        if !fields.is_empty() {
+            lines.push(("record", format!("{driver}{fields}")));
+        }
+    }
+    lines
 }
 
 /// Makes one field of one record not fit, if there is a record.

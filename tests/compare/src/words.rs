@@ -1,4 +1,4 @@
-//! What a controller sends: words, numbers of clocks, key scans, drivers.
+//! What a bench gives a chain: words and bus clocks, master clocks, closed keys.
 
 use crate::random::Random;
 

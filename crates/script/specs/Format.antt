@@ -68,6 +68,7 @@ pub data Item : Type 0 where
   chain : ℕ → Item
   -- kinds 2 to 6
   call : Call → Item
+  -- what gives 8
   malformed : Item
 
 -- the record at the start of some bytes

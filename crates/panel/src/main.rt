@@ -18,10 +18,8 @@ fn main() {
             return;
         }
     }
-    // Room for what any script prints: script::room_for(65536).
     let mut output = [0u8; 262160];
-    let ran = script::run(&input[..n], &mut output);
-    let length = ran.length;
+    let length = script::print_all(&input[..n], &mut output);
     if !io::write_all(STDOUT_FILENO, &output[..length]) {
         io::write_all(STDERR_FILENO, b"panel: standard output can't be written\n");
     }

@@ -1,13 +1,13 @@
 -- Where a run starts, and what a script prints from there.
 -- Assumes nothing.
-use Prim.Native.Nat.{ℕ, _+_, _/_, _≤_, _<_}
+use Prim.Native.Nat.{ℕ, _+_, _*_, _/_, _≤_, _<_}
 use native.Mathlib.Omega.{arith}
 use mathlib.Core.Bool.{Bool, true, false, _&&_}
 use mathlib.Core.List.{List, [], _∷_, _++_}
 use mathlib.Core.Path.{_≡_, refl}
 use lib.Dec.{ltb}
 use lib.ListN.{length, drop}
-use borrow.Author.Tests.{eq-eqb, ne-eqb, lt-ltb, le-ltb}
+use borrow.Author.Tests.{eq-eqb, ne-eqb, lt-ltb, le-ltb, ltb-false}
 use Rattle.words.specs.Choice.{if}
 use Rattle.script.specs.Lines.{digit, chainLine, refusalLine}
 use Rattle.script.specs.Format.{byte, kindOf, bodyLength, sizeOf, wellFormed, itemsAfter, items}
@@ -96,3 +96,18 @@ printed-long s h = rw (lt-ltb _ _ h)
 pub printed-items : (s : List ℕ) → length s ≤ longest → printed s ≡ itemsPrinted (items s)
 unfolding printed
 printed-items s h = rw (le-ltb _ _ h)
+
+-- room that suffices for any script
+room-most : (n : ℕ) → roomFor n ≤ 262160
+room-most n = go (ltb longest n) refl
+  where
+    go : (b : Bool) → ltb longest n ≡ b → if b 4 (16 + 4 * n) ≤ 262160
+    go true e = omega arith
+    go false e = omega (arith, ltb-false longest n e)
+
+pub always-served : (s out out′ : List ℕ) (r : Ran) → length out ≡ 262160 → r ≡ ranOf s out → out′ ≡ outAfter s out
+    → (r .length ≡ length (printed s)) × (out′ ≡ printed s ++ drop (r .length) out)
+always-served s out out′ r l e o =
+    let t = le-ltb (length out) (roomFor (length s)) (omega (arith, room-most (length s))) in
+    let n : r .length ≡ length (printed s) = rw (e, t) in
+    (n, rw (o, t, n))

@@ -5,10 +5,11 @@ mod table;
 
 ghost use Prim.Native.Nat.{_+_, _*_, _-_, _≤_};
 ghost use mathlib.Core.Bool.{true};
+ghost use mathlib.Core.List.{_++_};
 ghost use mathlib.Core.Path.{_≡_};
 ghost use lib.ListN.{length, drop};
 ghost use Rattle.script.specs.Format.{testTable, callOf, lengthFits, items};
-ghost use Rattle.script.specs.Script.{freshChain, runLines, itemsPrinted, longest};
+ghost use Rattle.script.specs.Script.{freshChain, runLines, itemsPrinted, longest, printed};
 ghost use Rattle.script.specs.Run.{roomFor, ranOf, outAfter};
 ghost use Rattle.script.specs.Examples.{Examples};
 ghost use Rattle.script.specs.Steps.{Written, Given, Obeyed, Started};
@@ -228,6 +229,14 @@ pub fn run(script: &[u8], out: &mut [u8]) -> Ran
         number: 0,
         length: print(script, out),
     }
+}
+
+// Runs a script in room that suffices for any, and gives the number of bytes that it prints.
+pub fn print_all(script: &[u8], out: &mut [u8; 262160]) -> usize
+    ensures { λ r. ⌜ (r ≡ length (printed (now (script .entry)))) × (now (out .exit) ≡ printed (now (script .entry)) ++ drop r (now (out .entry))) × (r ≤ length (now (out .exit))) ⌝ }
+{
+    let ran = run(script, out);
+    ran.length
 }
 
 // A theorem: document 01's script prints its four lines, and the first line is as it says in each case.

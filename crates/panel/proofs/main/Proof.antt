@@ -29,20 +29,17 @@ returns c = search needs
 array-share-prefix-input : tie.Need-array-share-prefix-input
 array-share-prefix-input c = search needs
 
-slice-aggregate-run : tie.Need-slice-aggregate-run
-slice-aggregate-run c = search needs
+slice-aggregate-print-all : tie.Need-slice-aggregate-print-all
+slice-aggregate-print-all c = search needs
 
-slice-aggregate-run-2 : tie.Need-slice-aggregate-run-2
-slice-aggregate-run-2 c = search needs
-
-run-requires : tie.Need-run-requires
-run-requires c κs = search needs
+print-all-requires : tie.Need-print-all-requires
+print-all-requires c κs = search needs
 
 array-share-prefix-output : tie.Need-array-share-prefix-output
-array-share-prefix-output c = c .before .run .ensures .2
+array-share-prefix-output c = c .print-all .ensures .2
 
 slice-aggregate-write-all-2 : tie.Need-slice-aggregate-write-all-2
-slice-aggregate-write-all-2 c = sym (length-take-le _ _ (c .before .before .run .ensures .2))
+slice-aggregate-write-all-2 c = sym (length-take-le _ _ (c .before .print-all .ensures .2))
 
 write-all-requires-2 : tie.Need-write-all-requires-2
 write-all-requires-2 c κs = search needs
@@ -71,9 +68,8 @@ main-spec =
     write-all-requires
     returns
     array-share-prefix-input
-    slice-aggregate-run
-    slice-aggregate-run-2
-    run-requires
+    slice-aggregate-print-all
+    print-all-requires
     array-share-prefix-output
     slice-aggregate-write-all-2
     write-all-requires-2

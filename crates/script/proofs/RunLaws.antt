@@ -15,6 +15,7 @@ use Rattle.wire.specs.Bits.{bytesFor}
 use Rattle.wire.proofs.SizeLaws.{served as sizes-fit}
 use Rattle.device.specs.PowerUp.{powerUp}
 use Rattle.device.specs.declared.Device.{Device}
+use Rattle.display.specs.declared.SegmentAnswer.{SegmentAnswer}
 use Rattle.calls.specs.Calls.{Step, Question, Call, access, give, ask}
 use Rattle.calls.specs.Numbers.{allSound}
 use Rattle.calls.specs.Served.{numberAt, afterAt, after}
@@ -125,18 +126,27 @@ pub given-obeyed : (r : Row) (j : ℕ) (s : Step) (size at : ℕ) (out out′ : 
 given-obeyed r j s size at out out′ done p e h g =
     record { row-after = g .row-after ∙ rw e; line = rw e at (g .line); short = omega (arith, g .short) }
 
--- a question's number, and the row as it was
-pub asked-done : (r : Row) (j : ℕ) (q : Question) (number : ℕ) → number ≡ numberOn r (ask j q) → _≡_ {A = Done} (record { number = number; row = r }) (doneOn r (ask j q))
-asked-done r j q number e = rw (e, ask-leaves r j q)
+-- what a cathode shows, asked of a row
+abbrev pub shownOn : Row → ℕ → Question → SegmentAnswer
+shownOn r j q = record { number = numberOn r (ask j q); pins = replyOn r (ask j q) }
 
--- a show that is served
-pub shown-obeyed : (r : Row) (j : ℕ) (q : Question) (size at : ℕ) (out out′ pins : List ℕ) (number end : ℕ)
-    → number ≡ numberOn r (ask j q) → number ≡ 0 → pins ≡ replyOn r (ask j q) → length pins ≡ 19 → 6 ≤ size
-    → Written (showLine pins) at out out′ end → Obeyed r (ask j q) size at out out′ (record { row = r; at = end })
-shown-obeyed r j q size at out out′ pins number end e z b l h w =
-    let n : numberOn r (ask j q) ≡ 0 = sym e ∙ z in
-    record {
-      row-after = sym (ask-leaves r j q);
-      line = rw (n, ← b) w;
-      short = omega (arith, w .place, length-append (each pinText pins) (10 ∷ []), length-each pinText 1 (λ x. refl) pins);
-    }
+module _ (r : Row) (j : ℕ) (q : Question) (size at : ℕ) (out out′ : List ℕ) (a : SegmentAnswer) (end : ℕ) (e : a ≡ shownOn r j q) where
+  same-answer : a .number ≡ numberOn r (ask j q)
+  same-answer = rw e
+
+  -- a show that is served
+  pub show-served : a .number ≡ 0 → length (a .pins) ≡ 19 → 6 ≤ size → Written (showLine (a .pins)) at out out′ end
+      → Obeyed r (ask j q) size at out out′ (record { row = r; at = end })
+  show-served z l h w =
+      let n : numberOn r (ask j q) ≡ 0 = sym same-answer ∙ z in
+      let b : a .pins ≡ replyOn r (ask j q) = rw e in
+      record {
+        row-after = sym (ask-leaves r j q);
+        line = rw (n, ← b) w;
+        short = omega (arith, w .place, length-append (each pinText (a .pins)) (10 ∷ []), length-each pinText 1 (λ x. refl) (a .pins));
+      }
+
+  -- one that is refused
+  pub show-refused : (a .number ≡ 0 → ⊥) → 1 ≤ size → Written (refusalLine (a .number)) at out out′ end
+      → Obeyed r (ask j q) size at out out′ (record { row = r; at = end })
+  show-refused z h w = refused r (ask j q) size at out out′ (record { number = a .number; row = r }) (rw (same-answer, ask-leaves r j q)) end h z w

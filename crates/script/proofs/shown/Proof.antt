@@ -1,11 +1,9 @@
 -- `script::shown` meets its contract. Assumes nothing.
 use native.Mathlib.Omega.{arith}
-use mathlib.Core.Path.{ap}
 use borrow.Author.Needs.{needs}
-use Rattle.display.specs.declared.SegmentAnswer.{SegmentAnswer}
 use Rattle.calls.specs.Calls.{segments}
 use Rattle.script.specs.Format.{byte, testTable}
-use Rattle.script.proofs.RunLaws.{asked-done, shown-obeyed, refused}
+use Rattle.script.proofs.RunLaws.{show-served, show-refused}
 use Rattle.script.proofs.shown.Statement.{statement}
 use Rattle.script.proofs.shown.Tie as tie
 
@@ -34,8 +32,8 @@ returns : tie.Need-returns
 returns c =
     let a = c .before .before .before .before .before .before .before .before .before .before .before .before .args in
     let s = c .before .before .before .before .before .before .segments in
-    let e = rw (c .before .before .before .before .before .before .before .before .byte .ensures, c .before .before .before .before .before .before .before .byte2 .ensures, c .before .before .before .before .before .before .before .before .before .before .before .before .pre .0) at (s .ensures) in
-    shown-obeyed (a .row) (byte (a .body .now) 0) (segments (byte (a .body .now) 1) testTable testTable) 7 (a .at) _ _ (s .result .pins) (s .result .number) _ (ap (λ (x : SegmentAnswer). x .number) e) (c .before .before .before .before .before .if1 .taken) (ap (λ (x : SegmentAnswer). x .pins) e) (search needs) (omega arith) (c .before .before .show-line .ensures)
+    show-served (a .row) (byte (a .body .now) 0) (segments (byte (a .body .now) 1) testTable testTable) 7 (a .at) _ _ (s .result) _
+    (rw (c .before .before .before .before .before .before .before .before .byte .ensures, c .before .before .before .before .before .before .before .byte2 .ensures, c .before .before .before .before .before .before .before .before .before .before .before .before .pre .0) at (s .ensures)) (c .before .before .before .before .before .if1 .taken) (search needs) (omega arith) (c .before .before .show-line .ensures)
 
 refusal-line-requires : tie.Need-refusal-line-requires
 refusal-line-requires c κs = search needs
@@ -47,9 +45,8 @@ returns-2 : tie.Need-returns-2
 returns-2 c =
     let a = c .before .before .before .before .before .before .before .before .before .before .before .args in
     let s = c .before .before .before .before .before .segments in
-    let e = rw (c .before .before .before .before .before .before .before .byte .ensures, c .before .before .before .before .before .before .byte2 .ensures, c .before .before .before .before .before .before .before .before .before .before .before .pre .0) at (s .ensures) in
-    let done = asked-done (a .row) (byte (a .body .now) 0) (segments (byte (a .body .now) 1) testTable testTable) (s .result .number) (ap (λ (x : SegmentAnswer). x .number) e) in
-    refused (a .row) _ 7 (a .at) _ _ _ done _ (omega arith) (c .before .before .before .before .if1 .left) (c .before .before .refusal-line .ensures)
+    show-refused (a .row) (byte (a .body .now) 0) (segments (byte (a .body .now) 1) testTable testTable) 7 (a .at) _ _ (s .result) _
+    (rw (c .before .before .before .before .before .before .before .byte .ensures, c .before .before .before .before .before .before .byte2 .ensures, c .before .before .before .before .before .before .before .before .before .before .before .pre .0) at (s .ensures)) (c .before .before .before .before .if1 .left) (omega arith) (c .before .before .refusal-line .ensures)
 
 pub shown-spec : {M : Type 1} → statement M
 shown-spec =

@@ -4,7 +4,7 @@ use Prim.Native.Nat.{ℕ, _+_, _*_, _-_, _≤_, _<_}
 use native.Mathlib.Omega.{arith}
 use mathlib.Core.Bool.{true, false}
 use mathlib.Core.List.{List, [], _++_}
-use mathlib.Core.Path.{_≡_, refl, _∙_}
+use mathlib.Core.Path.{_≡_, refl, sym, _∙_}
 use lib.ListN.{length, take, drop, length-drop, length-replicate, drop-of-length-le}
 use lib.Seq.{length-take-le, drop-drop}
 use borrow.Author.Tests.{eq-eqb, ne-eqb}
@@ -66,91 +66,91 @@ restOf script from = take (length script - from) (drop from script)
 abbrev pub partOf : List ℕ → ℕ → ℕ → List ℕ
 partOf script from size = take (size - 5) (drop 5 (restOf script from))
 
--- the kind of the first record of the rest
-pub same-kind : (script : List ℕ) (from kind : ℕ) → kind ≡ kindOf (restOf script from) → kind ≡ kindOf (drop from script)
-same-kind script from kind k = rw (to-end from script) at k
+-- the size that is found of the record at a place, 0 where it is malformed
+abbrev pub SizeFound : List ℕ → ℕ → ℕ → Type 0
+SizeFound script from size = size ≡ if (wellFormed (restOf script from)) (sizeOf (restOf script from)) 0
 
--- the size of a record that is malformed
-pub not-found : (script : List ℕ) (from size : ℕ) → size ≡ if (wellFormed (restOf script from)) (sizeOf (restOf script from)) 0 → size ≡ 0
-    → wellFormed (drop from script) ≡ false
-not-found script from size e z = size-zero _ (bodyLength (drop from script)) size (rw (to-end from script) at e) z
-
--- the size of one that isn't
-module _ (script : List ℕ) (from size : ℕ) (e : size ≡ if (wellFormed (restOf script from)) (sizeOf (restOf script from)) 0) (z : size ≡ 0 → ⊥) where
-  says : (wellFormed (drop from script) ≡ true) × (size ≡ sizeOf (drop from script))
-  says = size-says _ (bodyLength (drop from script)) size (rw (to-end from script) at e) z
-
+-- a record that is well-formed
+pub record Found (script : List ℕ) (from size : ℕ) : Type 0 where
   pub well-formed : wellFormed (drop from script) ≡ true
-  well-formed = says .0
-
   pub exact : size ≡ sizeOf (drop from script)
-  exact = says .1
-
   pub five : 5 ≤ size
-  five = omega (arith, exact)
-
   pub rest-whole : size ≤ length (restOf script from)
-  rest-whole = rw (to-end from script) (omega (arith, exact, fits (drop from script) well-formed .whole))
-
   pub whole : from + size ≤ length script
-  whole = omega (arith, five, exact, fits (drop from script) well-formed .whole, length-drop from script)
-
-  part-body : partOf script from size ≡ bodyOf (drop from script)
-  part-body = let k : size - 5 ≡ bodyLength (drop from script) = omega (arith, exact) in rw (to-end from script, k)
-
+  pub part-body : partOf script from size ≡ bodyOf (drop from script)
   pub part-length : 5 + length (partOf script from size) ≡ size
-  part-length =
-      let s = drop from script in
-      let f = fits s well-formed .whole in
-      let l : length (bodyOf s) ≡ bodyLength s = length-take-le (bodyLength s) (drop 5 s) (rw length-drop (omega arith)) in
-      rw part-body (omega (arith, exact, l))
 
-  pub part-fits : (kind : ℕ) → kind ≡ kindOf (restOf script from) → lengthFits kind (length (partOf script from size)) ≡ true
-  part-fits kind k =
-      let l : length (partOf script from size) ≡ bodyLength (drop from script) = omega (arith, part-length, exact) in
-      rw (l, k, to-end from script) (fits (drop from script) well-formed .body-fits)
+pub found : (script : List ℕ) (from size : ℕ) → SizeFound script from size → (size ≡ 0 → ⊥) → Found script from size
+found script from size e z =
+    let s = drop from script in
+    let t = size-says _ (bodyLength s) size (rw (to-end from script) at e) z in
+    let f = fits s (t .0) .whole in
+    let k : size - 5 ≡ bodyLength s = omega (arith, t .1) in
+    let b : partOf script from size ≡ bodyOf s = rw (to-end from script, k) in
+    let l : length (bodyOf s) ≡ bodyLength s = length-take-le (bodyLength s) (drop 5 s) (rw length-drop (omega arith)) in
+    record {
+      well-formed = t .0;
+      exact = t .1;
+      five = omega (arith, t .1);
+      rest-whole = rw (to-end from script) (omega (arith, t .1, f));
+      whole = omega (arith, t .1, f, length-drop from script);
+      part-body = b;
+      part-length = rw b (omega (arith, t .1, l));
+    }
 
-  pub record-obeyed : (row : Row) (kind at : ℕ) (out out′ : List ℕ) (p : Progress) → kind ≡ kindOf (restOf script from)
-      → Obeyed row (callOf kind (partOf script from size)) (5 + length (partOf script from size)) at out out′ p
-      → Obeyed row (callOf (kindOf (drop from script)) (bodyOf (drop from script))) size at out out′ p
-  record-obeyed row kind at out out′ p k o = rw (part-length, part-body, k, to-end from script) at o
+-- its body fits its kind
+pub part-fits : {script : List ℕ} {from size : ℕ} → Found script from size → (kind : ℕ) → kind ≡ kindOf (restOf script from)
+    → lengthFits kind (length (partOf script from size)) ≡ true
+part-fits {script} {from} {size} f kind k =
+    let l : length (partOf script from size) ≡ bodyLength (drop from script) = omega (arith, f .part-length, f .exact) in
+    rw (l, k, to-end from script) (fits (drop from script) (f .well-formed) .body-fits)
 
-module _ (script : List ℕ) (start n first : ℕ) (out₀ out : List ℕ) (row : Row) (from at : ℕ) (g : Running script start n first out₀ out row from at)
+module _ {script : List ℕ} {start n first : ℕ} {out₀ out : List ℕ} {row : Row} {from at : ℕ} (g : Running script start n first out₀ out row from at)
     (h : from < length script) where
-  -- some bytes are left
-  pub rest-some : 0 < length (drop from script)
-  rest-some = rw length-drop (omega arith)
+  some-left : 0 < length (drop from script)
+  some-left = rw length-drop (omega arith)
 
-  -- the run stops at a record that prints a refusal
-  pub run-stops : (out′ : List ℕ) (at′ : ℕ) → runLines (items (drop from script)) (records row) ≡ refusalLine 8
+  -- the run stops where the first record prints a refusal
+  stops : (out′ : List ℕ) (at′ : ℕ) → runLines (items (drop from script)) (records row) ≡ refusalLine 8
       → Written (refusalLine 8) at out out′ at′ → Written (runLines (items (drop start script)) (freshChain n)) first out₀ out′ at′ × (at′ ≤ length out₀)
-  run-stops out′ at′ e w = (all-written _ _ _ _ _ (part-written _ _ _ (refusalLine 8) [] _ _ _ _ (rw e at (g .left)) w), omega (arith, g .space, w .place))
+  stops out′ at′ e w = (all-written _ _ _ _ _ (part-written _ _ _ (refusalLine 8) [] _ _ _ _ (rw e at (g .left)) w), omega (arith, g .space, w .place))
+
+  -- at a malformed record
+  pub stops-malformed : {size : ℕ} {out′ : List ℕ} {at′ : ℕ} → SizeFound script from size → size ≡ 0
+      → Written (refusalLine 8) at out out′ at′ → Written (runLines (items (drop start script)) (freshChain n)) first out₀ out′ at′ × (at′ ≤ length out₀)
+  stops-malformed {size} e z =
+      stops _ _
+      (malformed-lines (drop from script) (records row) some-left (size-zero _ (bodyLength (drop from script)) size (rw (to-end from script) at e) z))
+
+  -- at a chain record
+  pub stops-chain : {size kind : ℕ} {out′ : List ℕ} {at′ : ℕ} → Found script from size → kind ≡ kindOf (restOf script from) → kind ≡ 1
+      → Written (refusalLine 8) at out out′ at′ → Written (runLines (items (drop start script)) (freshChain n)) first out₀ out′ at′ × (at′ ≤ length out₀)
+  stops-chain f k o = stops _ _ (chain-lines (drop from script) (records row) some-left (f .well-formed) (sym (rw (to-end from script) at k) ∙ o))
 
   -- a record is obeyed, and the run goes on after it
-  pub run-goes-on : (out′ : List ℕ) (p : Progress) → wellFormed (drop from script) ≡ true → (kindOf (drop from script) ≡ 1 → ⊥)
-      → (size : ℕ) → size ≡ sizeOf (drop from script)
-      → Obeyed row (callOf (kindOf (drop from script)) (bodyOf (drop from script))) size at out out′ p
+  pub goes-on : {size kind : ℕ} {out′ : List ℕ} {p : Progress} → Found script from size → kind ≡ kindOf (restOf script from) → (kind ≡ 1 → ⊥)
+      → Obeyed row (callOf kind (partOf script from size)) (5 + length (partOf script from size)) at out out′ p
       → Running script start n first out₀ out′ (p .row) (from + size) (p .at)
-  run-goes-on out′ p t k size z o =
+  goes-on {size} {kind} {out′} {p} f k other o′ =
       let s = drop from script in
       let q = callOf (kindOf s) (bodyOf s) in
-      let f = fits s t in
-      let l = length-drop from script in
+      let k′ : kind ≡ kindOf s = rw (to-end from script) at k in
+      let o : Obeyed row q size at out out′ p = rw (f .part-length, f .part-body, k′) at o′ in
       record {
-        within = omega (arith, f .whole, l, z);
+        within = f .whole;
         same-room = written-length _ _ _ _ _ (o .line) ∙ g .same-room;
-        space = omega (arith, f .whole, l, z, o .short, g .space);
+        space = omega (arith, f .whole, o .short, g .space);
         wide = rw (o .row-after) (row-wide row (g .wide) q);
         left =
-            rw (o .row-after, records-after row (g .wide) q, z, ← drop-drop (sizeOf s) from script)
+            rw (o .row-after, records-after row (g .wide) q, f .exact, ← drop-drop (sizeOf s) from script)
             (part-written _ _ _ (lineOn row q) _ _ _ _ _
-            (rw (call-lines s (records row) rest-some t k, ← line-on row (g .wide) q) at (g .left))
+            (rw (call-lines s (records row) some-left (f .well-formed) (λ e. other (k′ ∙ e)), ← line-on row (g .wide) q) at (g .left))
             (o .line));
       }
 
 -- the run ends with the script
-pub run-ends : (script : List ℕ) (start n first : ℕ) (out₀ out : List ℕ) (row : Row) (from at : ℕ) → Running script start n first out₀ out row from at
+pub run-ends : {script : List ℕ} {start n first : ℕ} {out₀ out : List ℕ} {row : Row} {from at : ℕ} → Running script start n first out₀ out row from at
     → length script ≤ from → Written (runLines (items (drop start script)) (freshChain n)) first out₀ out at × (at ≤ length out₀)
 unfolding itemsAfter runLines
-run-ends script start n first out₀ out row from at g h =
+run-ends {script} {from = from} g h =
     (all-written _ _ _ _ _ (rw (drop-of-length-le script {i = from} h) at (g .left)), omega (arith, g .space))

@@ -239,7 +239,7 @@ pub fn print_all(script: &[u8], out: &mut [u8; 262160]) -> usize
     ran.length
 }
 
-// A theorem: document 01's script prints its four lines, and the first line is as it says in each case.
+// A theorem: document 01's script prints its four lines, one of every other kind its own, and the first line is as it says in each case.
 pub fn examples()
     ensures { λ _. ⌜ Examples ⌝ }
 {}

@@ -16,7 +16,8 @@ use Rattle.wire.proofs.SizeLaws.{served as sizes-fit}
 use Rattle.device.specs.declared.Device.{Device}
 use Rattle.calls.specs.Calls.{levels, Call}
 use Rattle.calls.specs.Numbers.{chainNumber, driverNumber, namedNumber, bytesNumber, stepNumber, argumentNumber, soundNumber, allSound, firstOf, numberBy}
-use Rattle.calls.specs.Served.{served, givenBack, refusedBack, numberAt, afterAt, replyAt, number, after, reply}
+use Rattle.calls.specs.Served.{served, givenBack, refusedBack}
+use Rattle.calls.specs.Outcome.{number, after, reply}
 use Rattle.calls.specs.Isolation.{numberAlone, accepted}
 
 -- the first number of a list that isn't 0 is 0: all are
@@ -49,16 +50,16 @@ zero-says n sound q z =
         (z₂ .0, z₃ .0, z₄ .0, first-zero e [] (z₄ .1) .0)
 
 pub number-says : (q : Call) (ds : List Device) → number q ds ≡ 0 → Accepted (length ds) (allSound ds) q
-unfolding numberAt
+unfolding number
 number-says q ds = zero-says (length ds) (allSound ds) q
 
 -- a call with the number 0 is served
 pub after-zero : (q : Call) (ds : List Device) → number q ds ≡ 0 → after q ds ≡ served q ds
-unfolding afterAt
+unfolding after
 after-zero q ds z = rw z
 
 pub reply-zero : (q : Call) (ds : List Device) → number q ds ≡ 0 → reply q ds ≡ givenBack q ds
-unfolding replyAt
+unfolding reply
 reply-zero q ds z = rw z
 
 -- a driver that is there
@@ -82,14 +83,14 @@ levels-fit l e = omega (arith, ltb-false 31 l (go (ltb 31 l) e))
 module _ (n : ℕ) (q : Call) (ds : List Device) (l : length ds ≡ n) (s : allSound ds ≡ true) where
   -- on sound records the arguments alone decide
   pub number-alone : number q ds ≡ numberAlone n q
-  unfolding numberAt
+  unfolding number
   number-alone = rw (l, s)
 
   -- accepted it is served, refused it changes nothing
   pub after-by : after q ds ≡ if (accepted n q) (served q ds) ds
-  unfolding afterAt
+  unfolding after
   after-by = rw number-alone
 
   pub reply-by : reply q ds ≡ if (accepted n q) (givenBack q ds) (refusedBack q)
-  unfolding replyAt
+  unfolding reply
   reply-by = rw number-alone

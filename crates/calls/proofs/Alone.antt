@@ -16,7 +16,8 @@ use Rattle.device.specs.Words.{taken}
 use Rattle.device.specs.declared.Device.{Device}
 use Rattle.calls.specs.Calls.{Step, Question, Call, access, give, ask}
 use Rattle.calls.specs.Numbers.{allSound}
-use Rattle.calls.specs.Served.{recordOf, stepped, answerTo, served, givenBack, refusedBack, after, reply}
+use Rattle.calls.specs.Served.{recordOf, stepped, answerTo, served, givenBack, refusedBack}
+use Rattle.calls.specs.Outcome.{after, reply}
 use Rattle.calls.specs.Lists.{afterAll, numbers, replies}
 use Rattle.calls.specs.Isolation.{numberAlone, accepted, loneStep, loneReply, answeredBy, loneAfter, lone, loneReplies, allAnsweredBy, Full, AllFull, Isolation}
 use Rattle.calls.proofs.Accepted.{zero-says, driver-there, sent-enough, number-alone, after-by, reply-by}

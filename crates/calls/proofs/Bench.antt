@@ -9,13 +9,13 @@ use Rattle.wire.specs.Bits.{bits, value, unpack, byteAt, pack, wordAt}
 use Rattle.wire.specs.Wire.{string, words, wire, answer, shifted}
 use Rattle.device.specs.Words.{taken}
 use Rattle.calls.specs.Numbers.{allSound}
-use Rattle.calls.specs.Served.{numberAt, afterAt, replyAt}
+use Rattle.calls.specs.Outcome.{number, after, reply}
 use Rattle.calls.specs.Lists.{afterAll, numbers, replies}
 use Rattle.calls.specs.Examples.{rows, Examples}
 
 -- what the definitions give is what the document says, in every row
 pub bench : Examples
-unfolding tabulate bits value unpack byteAt pack wordAt string words wire answer shifted taken allSound numberAt afterAt replyAt afterAll numbers replies
+unfolding tabulate bits value unpack byteAt pack wordAt string words wire answer shifted taken allSound number after reply afterAll numbers replies
 bench = refl
 
 -- a table whose two sides agree, row by row

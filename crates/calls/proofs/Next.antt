@@ -16,7 +16,8 @@ use Rattle.device.specs.declared.Device.{Device}
 use Rattle.device.proofs.Shift.{shift-word}
 use Rattle.calls.specs.Calls.{Step, scan, levels, clocks, Call, access, give, ask}
 use Rattle.calls.specs.Numbers.{allSound}
-use Rattle.calls.specs.Served.{recordOf, shiftWords, stepped, served, numberAt, replyAt, number, after, reply}
+use Rattle.calls.specs.Served.{recordOf, shiftWords, stepped, served}
+use Rattle.calls.specs.Outcome.{number, after, reply}
 use Rattle.calls.specs.Lists.{afterAll}
 use Rattle.calls.specs.Isolation.{accepted, ownWord}
 use Rattle.calls.specs.NextAccess.{NoAccess, wordTaken, NextAccess}
@@ -80,7 +81,7 @@ answer-held ds c sent room qs i h g z r f =
 -- an access on any other records with the same shift words, as sound, has the same answer
 same-answer : (ds es : List Device) (c : ℕ) (sent room : List ℕ) → shiftWords ds ≡ shiftWords es → allSound ds ≡ allSound es
     → reply (access c sent room) ds ≡ reply (access c sent room) es
-unfolding replyAt numberAt
+unfolding reply number
 same-answer ds es c sent room w s =
     let l : length ds ≡ length es =
     sym (length-map ds (λ (d : Device). d .shift)) ∙ ap length w ∙ length-map es (λ (d : Device). d .shift) in

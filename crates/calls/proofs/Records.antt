@@ -17,7 +17,8 @@ use Rattle.device.specs.Sound.{soundOf}
 use Rattle.device.specs.declared.Device.{Device}
 use Rattle.calls.specs.Calls.{Call, access, give, ask}
 use Rattle.calls.specs.Numbers.{allSound}
-use Rattle.calls.specs.Served.{served, numberAt, afterAt, after}
+use Rattle.calls.specs.Served.{served}
+use Rattle.calls.specs.Outcome.{number, after}
 use Rattle.calls.specs.Lists.{afterAll}
 
 -- sound records: each is sound
@@ -49,8 +50,8 @@ length-served (give j s) ds = length-set ds _ _
 length-served (ask j q) ds = refl
 
 pub length-after : (q : Call) (ds : List Device) → length (after q ds) ≡ length ds
-unfolding afterAt
-length-after q ds = go (eqb (numberAt (length ds) q ds) 0)
+unfolding after
+length-after q ds = go (eqb (number q ds) 0)
   where
     go : (b : Bool) → length (if b (served q ds) ds) ≡ length ds
     go true = length-served q ds

@@ -15,7 +15,8 @@ use Rattle.device.specs.declared.Device.{Device}
 use Rattle.device.proofs.Sound.{soundness as device-sound}
 use Rattle.calls.specs.Calls.{Step, scan, levels, clocks, Call, access, give, ask}
 use Rattle.calls.specs.Numbers.{stepNumber, allSound}
-use Rattle.calls.specs.Served.{recordOf, stepped, served, numberAt, afterAt, after}
+use Rattle.calls.specs.Served.{recordOf, stepped, served}
+use Rattle.calls.specs.Outcome.{number, after}
 use Rattle.calls.specs.Lists.{afterAll}
 use Rattle.calls.specs.Soundness.{Soundness}
 use Rattle.calls.proofs.Accepted.{Accepted, number-says, levels-fit}
@@ -41,10 +42,10 @@ served-sound (ask j q) ds a = a .all-sound
 
 -- any call
 pub after-sound : (q : Call) (ds : List Device) → allSound ds ≡ true → allSound (after q ds) ≡ true
-unfolding afterAt
-after-sound q ds s = go (eqb (numberAt (length ds) q ds) 0) refl
+unfolding after
+after-sound q ds s = go (eqb (number q ds) 0) refl
   where
-    go : (b : Bool) → eqb (numberAt (length ds) q ds) 0 ≡ b → allSound (if b (served q ds) ds) ≡ true
+    go : (b : Bool) → eqb (number q ds) 0 ≡ b → allSound (if b (served q ds) ds) ≡ true
     go true e = served-sound q ds (number-says q ds (eqb-true _ 0 e))
     go false e = s
 

@@ -16,6 +16,8 @@ pub data Step : Type 0 where
 pub data Question : Type 0 where
   -- the part of the plane shown: the lent planes P0 and P1, first and last digit
   plane : List ℕ → List ℕ → ℕ → ℕ → Question
+  -- which of the two lent planes that part is of
+  planeShown : List ℕ → List ℕ → ℕ → ℕ → Question
   -- the pins of a cathode: cathode, the glyph tables for 14 and for 16 segments
   segments : ℕ → List ℕ → List ℕ → Question
   -- the brightness of a digit

@@ -9,7 +9,8 @@ use Rattle.device.specs.Examples.{rows as driverRows}
 use Rattle.device.specs.declared.Device.{Device}
 use Rattle.display.specs.Examples.{rows as displayRows}
 use Rattle.calls.specs.Calls.{scan, Call, access, give}
-use Rattle.calls.specs.Served.{recordOf, number}
+use Rattle.calls.specs.Served.{recordOf}
+use Rattle.calls.specs.Outcome.{number}
 use Rattle.calls.specs.Lists.{afterAll, numbers, replies}
 
 -- a chain of n drivers at power-up

@@ -12,7 +12,8 @@ use Rattle.device.specs.Words.{taken}
 use Rattle.device.specs.declared.Device.{Device}
 use Rattle.calls.specs.Calls.{Question, Call, access, give, ask}
 use Rattle.calls.specs.Numbers.{allSound, numberBy}
-use Rattle.calls.specs.Served.{recordOf, stepped, answerTo, reply}
+use Rattle.calls.specs.Served.{recordOf, stepped, answerTo}
+use Rattle.calls.specs.Outcome.{reply}
 use Rattle.calls.specs.Lists.{afterAll, numbers, replies}
 
 -- the number that the table gives a call on n sound records, by its arguments alone

@@ -1,6 +1,7 @@
 pub mod Calls
 pub mod Numbers
 pub mod Served
+pub mod Outcome
 pub mod Lists
 pub mod Soundness
 pub mod NextAccess

@@ -4,7 +4,7 @@ use Prim.Native.Nat.{ℕ}
 use mathlib.Core.List.{List, [], _∷_}
 use Rattle.device.specs.declared.Device.{Device}
 use Rattle.calls.specs.Calls.{Call}
-use Rattle.calls.specs.Served.{number, after, reply}
+use Rattle.calls.specs.Outcome.{number, after, reply}
 
 -- the records after the list
 unfoldable pub afterAll : List Call → List Device → List Device

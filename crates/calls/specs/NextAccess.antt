@@ -14,7 +14,8 @@ use Rattle.device.specs.Words.{answerWord}
 use Rattle.device.specs.declared.Device.{Device}
 use Rattle.calls.specs.Calls.{Call, access, give, ask}
 use Rattle.calls.specs.Numbers.{allSound}
-use Rattle.calls.specs.Served.{recordOf, shiftWords, number, after, reply}
+use Rattle.calls.specs.Served.{recordOf, shiftWords}
+use Rattle.calls.specs.Outcome.{number, after, reply}
 use Rattle.calls.specs.Lists.{afterAll}
 use Rattle.calls.specs.Isolation.{accepted, ownWord}
 

@@ -12,7 +12,7 @@ use Rattle.device.specs.Sound.{soundOf}
 use Rattle.device.specs.declared.Device.{Device}
 use Rattle.brightness.specs.Brightness.{brightnessNumber}
 use Rattle.display.specs.Pins.{segmentsNumber}
-use Rattle.calls.specs.Calls.{Step, scan, levels, clocks, Question, plane, segments, brightness, shown, interrupt, Call, access, give, ask}
+use Rattle.calls.specs.Calls.{Step, scan, levels, clocks, Question, plane, planeShown, segments, brightness, shown, interrupt, Call, access, give, ask}
 
 -- 1: the chain has 0 or more than 16 records
 abbrev pub chainNumber : ℕ → ℕ
@@ -43,6 +43,7 @@ stepNumber (clocks k) = 0
 -- 6: a cathode above 7, a digit above 15, a range's last digit below its first, a lent plane not 16 long, a glyph table not 128 long
 abbrev pub questionNumber : Question → ℕ
 questionNumber (plane p0 p1 first last) = planeNumber p0 p1 first last
+questionNumber (planeShown p0 p1 first last) = planeNumber p0 p1 first last
 questionNumber (segments d font14 font16) = segmentsNumber d font14 font16
 questionNumber (brightness i) = brightnessNumber i
 questionNumber shown = 0

@@ -2,9 +2,7 @@
 -- Assumes nothing.
 use Prim.Native.Nat.{ℕ, _-_}
 use mathlib.Core.List.{List, [], _∷_, _++_, map}
-use lib.Dec.{eqb}
 use lib.ListN.{length, getD, set, drop}
-use Rattle.words.specs.Choice.{if}
 use Rattle.words.specs.Lists.{tabulate}
 use Rattle.words.specs.declared.Plane.{Plane}
 use Rattle.words.specs.declared.Plane.the-variants.{P0, P1}
@@ -19,8 +17,7 @@ use Rattle.device.specs.declared.Device.{Device}
 use Rattle.brightness.specs.Brightness.{brightnessOf}
 use Rattle.display.specs.Pins.{pinNumber, segmentsOf}
 use Rattle.display.specs.declared.Pin.the-variants.{NotDriven}
-use Rattle.calls.specs.Calls.{Step, scan, levels, clocks, Question, plane, segments, brightness, shown, interrupt, Call, access, give, ask}
-use Rattle.calls.specs.Numbers.{allSound, numberBy}
+use Rattle.calls.specs.Calls.{Step, scan, levels, clocks, Question, plane, planeShown, segments, brightness, shown, interrupt, Call, access, give, ask}
 
 -- driver j's record
 abbrev pub recordOf : List Device → ℕ → Device
@@ -52,6 +49,7 @@ planeIndex P1 = 1
 -- what a driver answers, from its record and what is lent: the part, the 19 pins, the sixteenths, the plane shown, the interrupt
 abbrev pub answerTo : Question → Device → List ℕ
 answerTo (plane p0 p1 first last) x = planePart (shownPlane x) p0 p1 first last
+answerTo (planeShown p0 p1 first last) x = planeIndex (shownPlane x) ∷ []
 answerTo (segments d font14 font16) x = segmentsOf x d font14 font16 .pins
 answerTo (brightness i) x = brightnessOf x i ∷ []
 answerTo shown x = planeIndex (shownPlane x) ∷ []
@@ -60,6 +58,7 @@ answerTo interrupt x = x .registers .keys .interrupt ∷ []
 -- a refused answer: the part is empty, no pin is driven, a number is 0
 abbrev pub refusedTo : Question → List ℕ
 refusedTo (plane p0 p1 first last) = []
+refusedTo (planeShown p0 p1 first last) = 0 ∷ []
 refusedTo (segments d font14 font16) = tabulate 19 (λ p. pinNumber NotDriven)
 refusedTo (brightness i) = 0 ∷ []
 refusedTo shown = 0 ∷ []
@@ -82,31 +81,3 @@ abbrev pub refusedBack : Call → List ℕ
 refusedBack (access c sent room) = room
 refusedBack (give j s) = []
 refusedBack (ask j q) = refusedTo q
-
--- the number of a call on a row whose length counts as n
-unfoldable pub numberAt : ℕ → Call → List Device → ℕ
-numberAt n q ds = numberBy n (allSound ds) q
-
--- the records after it; apart from 0 nothing changes
-unfoldable pub afterAt : ℕ → Call → List Device → List Device
-afterAt n q ds = if (eqb (numberAt n q ds) 0) (served q ds) ds
-
--- what it gives back
-unfoldable pub replyAt : ℕ → Call → List Device → List ℕ
-replyAt n q ds = if (eqb (numberAt n q ds) 0) (givenBack q ds) (refusedBack q)
-
--- the number of a call on a chain
-abbrev pub number : Call → List Device → ℕ
-number q ds = numberAt (length ds) q ds
-
--- the chain's records after it
-abbrev pub after : Call → List Device → List Device
-after q ds = afterAt (length ds) q ds
-
--- what it gives back beside its number
-abbrev pub reply : Call → List Device → List ℕ
-reply q ds = replyAt (length ds) q ds
-
--- the one number of an answer that has one
-abbrev pub only : List ℕ → ℕ
-only xs = getD xs 0 0

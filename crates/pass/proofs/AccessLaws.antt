@@ -1,0 +1,127 @@
+-- The access by what its passes leave: the number found, the words copied, the words taken.
+--     access-number, access-refused, access-served     its outcome
+--     length-next                                      how many words the wire leaves
+-- Assumes nothing.
+use Prim.Native.Nat.{ℕ, _+_, _-_, _*_, _≤_, _<_}
+use native.Mathlib.Omega.{arith}
+use mathlib.Core.Bool.{Bool, true, false, _&&_}
+use mathlib.Core.List.{List, [], _∷_, _++_, map, append-nil}
+use mathlib.Core.Path.{_≡_, refl, sym, ap, _∙_}
+use lib.Dec.{eqb, leb}
+use lib.ListN.{length, getD, take, drop, replicate, length-append, length-drop, length-map, List·getD-append, List·getD-map}
+use lib.Seq.{take-at, take-length, drop-length, ext-getD}
+use borrow.Author.Tests.{eqb-true, eq-eqb, ne-eqb, le-leb}
+use Rattle.words.specs.Choice.{if}
+use Rattle.words.specs.Lists.{tabulate}
+use Rattle.words.proofs.Lists.{length-tabulate, getD-tabulate, tabulate-ext}
+use Rattle.wire.specs.Bits.{bytesFor}
+use Rattle.wire.specs.Shift.{sizeNumber, fits, wordsAfter, roomAfter}
+use Rattle.wire.specs.Wire.{answer, shifted}
+use Rattle.wire.proofs.WholeLaws.{length-shifted}
+use Rattle.device.specs.PowerUp.{powerUp}
+use Rattle.device.specs.Words.{taken}
+use Rattle.device.specs.declared.Device.{Device}
+use Rattle.calls.specs.Calls.{access}
+use Rattle.calls.specs.Numbers.{chainNumber, soundNumber, allSound}
+use Rattle.calls.specs.Served.{shiftWords, allTaken}
+use Rattle.calls.specs.Outcome.{number, after, reply, outcome}
+use Rattle.calls.proofs.Accepted.{first-zero}
+use Rattle.pass.specs.Found.{accessByArguments, toPassIn, inRoom, found}
+use Rattle.pass.specs.OneByOne.{wordsTo, takenTo}
+use Rattle.pass.proofs.FoundLaws.{found-last, chain-long, pass-in-le}
+use Rattle.pass.proofs.StepLaws.{length-words}
+
+module _ (ds : List Device) (c : ℕ) (sent room : List ℕ) where
+  abbrev n : ℕ
+  n = length ds
+
+  abbrev first : ℕ
+  first = accessByArguments n c (length sent) (length room)
+
+  abbrev zeros : List ℕ
+  zeros = replicate 16 0
+
+  abbrev m : ℕ
+  m = toPassIn first n (length zeros)
+
+  abbrev nr : ℕ
+  nr = found first (allSound (take m ds))
+
+  -- no number yet: the chain is short enough, and the clocks and bytes fit
+  no-first : first ≡ 0 → (chainNumber n ≡ 0) × (sizeNumber c (length sent) (length room) ≡ 0)
+  no-first z =
+      let a = first-zero (chainNumber n) (sizeNumber c (length sent) (length room) ∷ []) z in
+      (a .0, first-zero (sizeNumber c (length sent) (length room)) [] (a .1) .0)
+
+  short : first ≡ 0 → n ≤ 16
+  short z = chain-long n (no-first z .0)
+
+  all-passed : first ≡ 0 → m ≡ n
+  all-passed z = rw (eq-eqb first 0 z, le-leb n 16 (short z))
+
+  pub access-number : nr ≡ number (access c sent room) ds
+  unfolding number
+  access-number = go (eqb first 0) refl ∙ found-last (chainNumber n ∷ sizeNumber c (length sent) (length room) ∷ []) (soundNumber (allSound ds))
+    where
+      go : (b : Bool) → eqb first 0 ≡ b → if b (soundNumber (allSound (take m ds))) first ≡ if b (soundNumber (allSound ds)) first
+      go true e =
+          let whole : take m ds ≡ ds = ap (λ (k : ℕ). take k ds) (all-passed (eqb-true first 0 e)) ∙ take-length ds in
+          ap (λ (xs : List Device). soundNumber (allSound xs)) whole
+      go false e = refl
+
+  pub access-refused : (nr ≡ 0 → ⊥) → record { number = nr; records = ds; back = room } ≡ outcome (access c sent room) ds
+  unfolding after reply
+  access-refused z = rw (← access-number, ne-eqb nr 0 z)
+
+  module _ (z : nr ≡ 0) where
+    first-is-zero : first ≡ 0
+    first-is-zero = go (eqb first 0) refl z
+      where
+        go : (b : Bool) → eqb first 0 ≡ b → if b (soundNumber (allSound (take m ds))) first ≡ 0 → first ≡ 0
+        go true e q = eqb-true first 0 e
+        go false e q = q
+
+    length-words-to : length (wordsTo ds zeros m) ≡ 16
+    length-words-to = length-words ds zeros m (pass-in-le first n 16)
+
+    -- the wire serves it
+    wire-fits : fits (wordsTo ds zeros m) n c sent room ≡ true
+    wire-fits =
+        go (leb n 16) (leb n (length (wordsTo ds zeros m))) (eqb (sizeNumber c (length sent) (length room)) 0)
+        (le-leb n 16 (short first-is-zero)) (le-leb n (length (wordsTo ds zeros m)) (omega (arith, length-words-to, short first-is-zero))) (eq-eqb _ 0 (no-first first-is-zero .1))
+      where
+        go : (a b c : Bool) → a ≡ true → b ≡ true → c ≡ true → a && b && c ≡ true
+        go a b c p q r = rw (p, q, r)
+
+    -- the words that were copied are the shift words
+    words-are : take n (wordsTo ds zeros m) ≡ shiftWords ds
+    words-are =
+        let f : Device → ℕ = λ d. d .shift in
+        let t : tabulate n (λ i. getD ds i powerUp .shift) ≡ map f ds =
+        ext-getD 0 _ _ (length-tabulate n _ ∙ sym (length-map ds f)) (λ i h.
+        let b : i < n = rw length-tabulate at h in
+        getD-tabulate n _ 0 i b ∙ sym (List·getD-map f ds i powerUp)) in
+        rw (all-passed first-is-zero) (take-at (tabulate n (λ i. getD ds i powerUp .shift)) (drop n zeros) n (length-tabulate n _) ∙ t)
+
+    shifted-words : wordsAfter (wordsTo ds zeros m) n c sent room ≡ shifted (shiftWords ds) sent c ++ drop n (wordsTo ds zeros m)
+    shifted-words = rw (wire-fits, words-are)
+
+    length-shifted-words : length (shifted (shiftWords ds) sent c) ≡ n
+    length-shifted-words = length-shifted (shiftWords ds) sent c ∙ length-map ds (λ (d : Device). d .shift)
+
+    pub length-next : length (wordsAfter (wordsTo ds zeros m) n c sent room) ≡ 16
+    length-next = rw (shifted-words, length-append, length-shifted-words, length-drop, length-words-to) (omega (arith, short first-is-zero))
+
+    abbrev next : List ℕ
+    next = wordsAfter (wordsTo ds zeros m) n c sent room
+
+    pub access-served : record { number = nr; records = takenTo ds next (inRoom n (length next)); back = roomAfter (wordsTo ds zeros m) n c sent room } ≡ outcome (access c sent room) ds
+    unfolding after reply
+    access-served =
+        let each : tabulate n (λ i. taken (getD ds i powerUp) (getD next i 0)) ≡ allTaken ds (shifted (shiftWords ds) sent c) =
+        tabulate-ext n _ _ (λ i b. rw shifted-words (ap (λ (v : ℕ). taken (getD ds i powerUp) v) (List·getD-append (shifted (shiftWords ds) sent c) _ 0 i (rw length-shifted-words b)))) in
+        let long : n ≤ length next = omega (arith, length-next, short first-is-zero) in
+        let room-is : inRoom n (length next) ≡ n = ap (λ (b : Bool). if b n 0) (le-leb n (length next) long) in
+        let all : takenTo ds next (inRoom n (length next)) ≡ allTaken ds (shifted (shiftWords ds) sent c) = ap (λ (k : ℕ). takenTo ds next k) room-is ∙ rw (drop-length, append-nil) each in
+        let back : roomAfter (wordsTo ds zeros m) n c sent room ≡ answer (shiftWords ds) sent c ++ drop (bytesFor c) room = rw (wire-fits, words-are) in
+        rw (all, back, ← access-number, z)

@@ -1,0 +1,134 @@
+-- The number as it is found is the number of the call, and the outcome of a call that names a driver by it.
+--     found-last                                   a number found after others
+--     pass-below, pass-in-below, pass-in-le, in-room-below, in-room-le     a record that is passed is one of the chain
+--     call-found                                   the number found is `callNumber`
+--     in-range, own-zero                           what a number of 0 tells of the driver and the argument
+--     give-served, give-refused, ask-served, ask-refused       the outcome
+-- Assumes nothing.
+use Prim.Native.Nat.{ℕ, _-_, _≤_, _<_}
+use native.Mathlib.Omega.{arith}
+use mathlib.Core.Bool.{Bool, true, false, _&&_}
+use mathlib.Core.List.{List, [], _∷_, _++_}
+use mathlib.Core.Path.{_≡_, refl, sym, ap, _∙_}
+use lib.Dec.{eqb, leb, ltb}
+use lib.ListN.{length, getD, set, take}
+use lib.Seq.{take-length}
+use borrow.Author.Tests.{eqb-true, ne-eqb, leb-true, ltb-true}
+use Rattle.words.specs.Choice.{if}
+use Rattle.words.proofs.Truth.{passed, and-right}
+use Rattle.device.specs.PowerUp.{powerUp}
+use Rattle.device.specs.declared.Device.{Device}
+use Rattle.calls.specs.Calls.{Step, Question, give, ask}
+use Rattle.calls.specs.Numbers.{chainNumber, driverNumber, stepNumber, questionNumber, soundNumber, allSound, firstOf}
+use Rattle.calls.specs.Served.{stepped, answerTo, refusedTo}
+use Rattle.calls.specs.Outcome.{number, after, reply, outcome, Outcome}
+use Rattle.calls.proofs.Accepted.{first-zero, driver-there}
+use Rattle.pass.specs.Found.{byArguments, toPass, toPassIn, inRoom, found, callNumber}
+
+-- the last number of a list needs no test
+pub first-last : (k : ℕ) → firstOf (k ∷ []) ≡ k
+first-last k = go (eqb k 0) refl
+  where
+    go : (b : Bool) → eqb k 0 ≡ b → if b 0 k ≡ k
+    go true e = sym (eqb-true k 0 e)
+    go false e = refl
+
+-- the first number of a list with one more: that of the list, or the one more
+pub found-last : (ks : List ℕ) (d : ℕ) → if (eqb (firstOf ks) 0) d (firstOf ks) ≡ firstOf (ks ++ d ∷ [])
+found-last [] d = sym (first-last d)
+found-last (k ∷ ks) d = go (eqb k 0) refl (found-last ks d)
+  where
+    go : (z : Bool) → eqb k 0 ≡ z → if (eqb (firstOf ks) 0) d (firstOf ks) ≡ firstOf (ks ++ d ∷ [])
+        → if (eqb (if z (firstOf ks) k) 0) d (if z (firstOf ks) k) ≡ if z (firstOf (ks ++ d ∷ [])) k
+    go true e r = r
+    go false e r = rw e
+
+-- ---- a record that is passed is one of the chain
+pub pass-below : (first n i : ℕ) → i < toPass first n → i < n
+pass-below first n i = go (eqb first 0)
+  where
+    go : (b : Bool) → i < if b n 0 → i < n
+    go true l = l
+    go false l = absurd (omega (arith, l))
+
+pub pass-in-below : (first n w i : ℕ) → i < toPassIn first n w → (i < n) × (i < w)
+pass-in-below first n w i = go (eqb first 0) (leb n w) refl
+  where
+    go : (a b : Bool) → leb n w ≡ b → i < if (a && b) n 0 → (i < n) × (i < w)
+    go true true t l = (l, omega (arith, l, leb-true n w t))
+    go true false t l = absurd (omega (arith, l))
+    go false b t l = absurd (omega (arith, l))
+
+pub pass-in-le : (first n w : ℕ) → toPassIn first n w ≤ w
+pass-in-le first n w = go (eqb first 0) (leb n w) refl
+  where
+    go : (a b : Bool) → leb n w ≡ b → if (a && b) n 0 ≤ w
+    go true true t = leb-true n w t
+    go true false t = omega arith
+    go false b t = omega arith
+
+pub in-room-below : (n w i : ℕ) → i < inRoom n w → (i < n) × (i < w)
+in-room-below n w i = go (leb n w) refl
+  where
+    go : (b : Bool) → leb n w ≡ b → i < if b n 0 → (i < n) × (i < w)
+    go true t l = (l, omega (arith, l, leb-true n w t))
+    go false t l = absurd (omega (arith, l))
+
+pub in-room-le : (n w : ℕ) → inRoom n w ≤ n
+in-room-le n w = go (leb n w)
+  where
+    go : (b : Bool) → if b n 0 ≤ n
+    go true = omega arith
+    go false = omega arith
+
+-- 1 isn't given: the chain isn't too long
+pub chain-long : (n : ℕ) → chainNumber n ≡ 0 → n ≤ 16
+chain-long n e = omega (arith, ltb-true n 17 (and-right (ltb 0 n) (ltb n 17) (passed (ltb 0 n && ltb n 17) 0 0 e .0)))
+
+-- ---- the number found
+module _ (ds : List Device) (driver own : ℕ) where
+  abbrev n : ℕ
+  n = length ds
+
+  abbrev first : ℕ
+  first = byArguments n driver own
+
+  pub call-found : found first (allSound (take (toPass first n) ds)) ≡ callNumber ds driver own
+  call-found = go (eqb first 0) ∙ found-last (chainNumber n ∷ driverNumber n driver ∷ own ∷ []) (soundNumber (allSound ds))
+    where
+      go : (b : Bool) → if b (soundNumber (allSound (take (if b n 0) ds))) first ≡ if b (soundNumber (allSound ds)) first
+      go true = ap (λ (xs : List Device). soundNumber (allSound xs)) (take-length ds)
+      go false = refl
+
+  -- the numbers after the first are 0
+  later : callNumber ds driver own ≡ 0 → (driverNumber n driver ≡ 0) × (firstOf (own ∷ soundNumber (allSound ds) ∷ []) ≡ 0)
+  later z = first-zero (driverNumber n driver) (own ∷ soundNumber (allSound ds) ∷ []) (first-zero (chainNumber n) (driverNumber n driver ∷ own ∷ soundNumber (allSound ds) ∷ []) z .1)
+
+  pub own-zero : callNumber ds driver own ≡ 0 → own ≡ 0
+  own-zero z = first-zero own (soundNumber (allSound ds) ∷ []) (later z .1) .0
+
+  pub in-range : callNumber ds driver own ≡ 0 → (1 ≤ driver) × (driver ≤ n)
+  in-range z = driver-there n driver (later z .0)
+
+-- ---- the outcome
+module _ (ds : List Device) (j : ℕ) (st : Step) where
+  pub give-served : callNumber ds j (stepNumber st) ≡ 0
+      → record { number = 0; records = set ds (j - 1) (stepped st (getD ds (j - 1) powerUp)); back = [] } ≡ outcome (give j st) ds
+  unfolding number after reply
+  give-served z = rw z
+
+  pub give-refused : (callNumber ds j (stepNumber st) ≡ 0 → ⊥)
+      → record { number = callNumber ds j (stepNumber st); records = ds; back = [] } ≡ outcome (give j st) ds
+  unfolding number after reply
+  give-refused z = rw (ne-eqb (callNumber ds j (stepNumber st)) 0 z)
+
+module _ (ds : List Device) (j : ℕ) (q : Question) where
+  pub ask-served : callNumber ds j (questionNumber q) ≡ 0
+      → record { number = 0; records = ds; back = answerTo q (getD ds (j - 1) powerUp) } ≡ outcome (ask j q) ds
+  unfolding number after reply
+  ask-served z = rw z
+
+  pub ask-refused : (callNumber ds j (questionNumber q) ≡ 0 → ⊥)
+      → record { number = callNumber ds j (questionNumber q); records = ds; back = refusedTo q } ≡ outcome (ask j q) ds
+  unfolding number after reply
+  ask-refused z = rw (ne-eqb (callNumber ds j (questionNumber q)) 0 z)

@@ -1,0 +1,4 @@
+pub mod WidthLaws
+pub mod FoundLaws
+pub mod StepLaws
+pub mod AccessLaws

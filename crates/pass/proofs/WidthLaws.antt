@@ -1,0 +1,153 @@
+-- The widths of a chain's records tell whether every record is sound.
+--     widths-start, widths-more, all-start, all-more      the records one by one
+--     fit-all                                             a pass over records whose bytes are bytes
+-- Assumes nothing.
+use Prim.Native.Nat.{ℕ, _+_, _/_, _%_, _^_, _<_}
+use native.Mathlib.Numerals.{add-one}
+use native.Mathlib.Decide.{decLt}
+use native.Mathlib.Omega.{arith}
+use mathlib.Core.Bool.{Bool, true, false, _&&_}
+use mathlib.Core.List.{List, [], _∷_, _++_}
+use mathlib.Core.Path.{_≡_, refl, sym, ap, ap₂, _∙_}
+use lib.Bits.{bitOr, or-lt, or-add-and, and-le-l, and-le-r, or-shr, or-mod}
+use lib.Dec.{ltb}
+use lib.ListN.{length, getD, take}
+use lib.Seq.{take-suc}
+use borrow.Author.Tests.{lt-ltb, le-ltb}
+use Rattle.words.specs.Choice.{if}
+use Rattle.device.specs.PowerUp.{powerUp}
+use Rattle.device.specs.Sound.{soundOf}
+use Rattle.device.specs.declared.Device.{Device}
+use Rattle.calls.specs.Numbers.{allSound}
+use Rattle.pass.specs.Widths.{greater, firstBytes, lastBytes, noWidths, widthsWith, widthsOf, fit, Bytes, AllBytes}
+use Rattle.pass.specs.declared.Widths.{Widths}
+
+-- ---- the records one by one
+pub widths-start : (xs : List Device) → noWidths ≡ widthsOf noWidths (take 0 xs)
+unfolding widthsOf
+widths-start xs = refl
+
+widths-added : (s : Widths) (ds : List Device) (d : Device) → widthsOf s (ds ++ d ∷ []) ≡ widthsWith (widthsOf s ds) d
+unfolding widthsOf
+widths-added s [] d = refl
+widths-added s (x ∷ ds) d = widths-added (widthsWith s x) ds d
+
+pub widths-more : (xs : List Device) (k : ℕ) → k < length xs → widthsWith (widthsOf noWidths (take k xs)) (getD xs k powerUp) ≡ widthsOf noWidths (take (k + 1) xs)
+widths-more xs k h = rw (add-one, take-suc xs k powerUp h) (sym (widths-added noWidths (take k xs) (getD xs k powerUp)))
+
+pub all-start : (xs : List Device) → AllBytes (take 0 xs)
+unfolding AllBytes
+all-start xs = tt
+
+pub all-more : (xs : List Device) (k : ℕ) → k < length xs → AllBytes (take k xs) → Bytes (getD xs k powerUp) → AllBytes (take (k + 1) xs)
+unfolding AllBytes
+all-more xs k h w b = rw (add-one, take-suc xs k powerUp h) (go (take k xs) w)
+  where
+    go : (ds : List Device) → AllBytes ds → AllBytes (ds ++ getD xs k powerUp ∷ [])
+    go [] w = (b, tt)
+    go (d ∷ ds) w = (w .0, go ds (w .1))
+
+-- ---- two numbers together pass a test where each does
+-- a test that is two tests
+record Two (p a b : Bool) : Type 0 where
+  same : p ≡ a && b
+
+-- two of them, crosswise
+cross : {p x a b c d : Bool} → Two p a b → Two x c d → Two (p && x) (a && c) (b && d)
+cross {a = a} {b = b} {c = c} {d = d} e f = record { same = ap₂ _&&_ (e .same) (f .same) ∙ go a b c }
+  where
+    go : (a b c : Bool) → (a && b) && (c && d) ≡ (a && c) && (b && d)
+    go true true c = refl
+    go true false true = refl
+    go true false false = refl
+    go false b c = refl
+
+-- bits one over the other have none too high where neither has
+or-small : (k a b : ℕ) → Two (ltb (bitOr a b) (2 ^ k)) (ltb a (2 ^ k)) (ltb b (2 ^ k))
+or-small k a b = record { same = go (decLt a (2 ^ k)) (decLt b (2 ^ k)) }
+  where
+    go : Dec (a < 2 ^ k) → Dec (b < 2 ^ k) → ltb (bitOr a b) (2 ^ k) ≡ ltb a (2 ^ k) && ltb b (2 ^ k)
+    go (yes p) (yes r) = rw (lt-ltb a (2 ^ k) p, lt-ltb b (2 ^ k) r, lt-ltb (bitOr a b) (2 ^ k) (or-lt k a b p r))
+    go (yes p) (no r) = rw (lt-ltb a (2 ^ k) p, le-ltb b (2 ^ k) (omega (arith, r)), le-ltb (bitOr a b) (2 ^ k) (omega (arith, r, or-add-and a b, and-le-l a b)))
+    go (no p) r = rw (le-ltb a (2 ^ k) (omega (arith, p)), le-ltb (bitOr a b) (2 ^ k) (omega (arith, p, or-add-and a b, and-le-r a b)))
+
+-- the same of the byte at bit j, which is v in the second number
+or-byte : (j k a b v : ℕ) → b / 2 ^ j % 2 ^ 8 ≡ v → Two (ltb (bitOr a b / 2 ^ j % 2 ^ 8) (2 ^ k)) (ltb (a / 2 ^ j % 2 ^ 8) (2 ^ k)) (ltb v (2 ^ k))
+or-byte j k a b v e =
+    record {
+      same = ap (λ (u : ℕ). ltb (u % 2 ^ 8) (2 ^ k)) (or-shr a b j)
+          ∙ ap (λ (u : ℕ). ltb u (2 ^ k)) (or-mod (a / 2 ^ j) (b / 2 ^ j) 8)
+          ∙ or-small k (a / 2 ^ j % 2 ^ 8) (b / 2 ^ j % 2 ^ 8) .same
+          ∙ ap (λ (u : ℕ). ltb (a / 2 ^ j % 2 ^ 8) (2 ^ k) && ltb u (2 ^ k)) e;
+    }
+
+-- the greater of two numbers is below a third where both are
+greater-small : (m a b : ℕ) → Two (ltb (greater a b) m) (ltb a m) (ltb b m)
+greater-small m a b = record { same = go (decLt a b) (decLt a m) (decLt b m) }
+  where
+    go : Dec (a < b) → Dec (a < m) → Dec (b < m) → ltb (greater a b) m ≡ ltb a m && ltb b m
+    go (yes p) (yes q) r = rw (lt-ltb a b p, lt-ltb a m q)
+    go (yes p) (no q) r = rw (lt-ltb a b p, le-ltb a m (omega (arith, q)), le-ltb b m (omega (arith, p, q)))
+    go (no p) (yes q) r = rw (le-ltb a b (omega (arith, p)), lt-ltb a m q, lt-ltb b m (omega (arith, p, q)))
+    go (no p) (no q) r = rw (le-ltb a b (omega (arith, p)), le-ltb a m (omega (arith, q)))
+
+-- ---- one record more
+module _ (w : Widths) (d : Device) (y : Bytes d) where
+  -- a byte of the eight, and of the two
+  first-byte : (j k v : ℕ) → firstBytes d / 2 ^ j % 2 ^ 8 ≡ v → Two (ltb (bitOr (w .first) (firstBytes d) / 2 ^ j % 2 ^ 8) (2 ^ k)) (ltb (w .first / 2 ^ j % 2 ^ 8) (2 ^ k)) (ltb v (2 ^ k))
+  first-byte j k v e = or-byte j k (w .first) (firstBytes d) v e
+
+  last-byte : (j k v : ℕ) → lastBytes d / 2 ^ j % 2 ^ 8 ≡ v → Two (ltb (bitOr (w .last) (lastBytes d) / 2 ^ j % 2 ^ 8) (2 ^ k)) (ltb (w .last / 2 ^ j % 2 ^ 8) (2 ^ k)) (ltb v (2 ^ k))
+  last-byte j k v e = or-byte j k (w .last) (lastBytes d) v e
+
+  -- which byte is which field
+  global-is : firstBytes d / 1 % 256 ≡ d .registers .controls .global
+  global-is = omega (arith, y .global, y .limit, y .gpio, y .ports, y .test, y .types, y .i, y .e)
+
+  limit-is : firstBytes d / 256 % 256 ≡ d .registers .controls .limit
+  limit-is = omega (arith, y .global, y .limit, y .gpio, y .ports, y .test, y .types, y .i, y .e)
+
+  gpio-is : firstBytes d / 65536 % 256 ≡ d .registers .controls .gpio
+  gpio-is = omega (arith, y .global, y .limit, y .gpio, y .ports, y .test, y .types, y .i, y .e)
+
+  test-is : firstBytes d / 4294967296 % 256 ≡ d .registers .controls .test
+  test-is = omega (arith, y .global, y .limit, y .gpio, y .ports, y .test, y .types, y .i, y .e)
+
+  i-is : firstBytes d / 281474976710656 % 256 ≡ d .registers .config .i
+  i-is = omega (arith, y .global, y .limit, y .gpio, y .ports, y .test, y .types, y .i, y .e)
+
+  e-is : firstBytes d / 72057594037927936 % 256 ≡ d .registers .config .e
+  e-is = omega (arith, y .global, y .limit, y .gpio, y .ports, y .test, y .types, y .i, y .e)
+
+  b-is : lastBytes d / 1 % 256 ≡ d .registers .config .b
+  b-is = omega (arith, y .b, y .s)
+
+  s-is : lastBytes d / 256 % 256 ≡ d .registers .config .s
+  s-is = omega (arith, y .b, y .s)
+
+  fit-more : fit (widthsWith w d) ≡ fit w && soundOf d
+  fit-more =
+      let c = d .registers .controls in
+      let f = d .registers .config in
+      let controls = cross (cross (cross (first-byte 0 4 (c .global) global-is) (first-byte 8 3 (c .limit) limit-is)) (first-byte 16 5 (c .gpio) gpio-is)) (first-byte 32 1 (c .test) test-is) in
+      let config = cross (cross (cross (first-byte 48 1 (f .i) i-is) (first-byte 56 1 (f .e) e-is)) (last-byte 0 1 (f .b) b-is)) (last-byte 8 1 (f .s) s-is) in
+      let keys = or-small 1 (w .interrupt) (d .registers .keys .interrupt) in
+      let pins = or-small 5 (w .pins) (d .registers .pins) in
+      cross (cross (cross (cross controls config) keys) pins) (greater-small 4000000 (w .blink) (d .registers .blink)) .same
+
+-- ---- all records
+fit-of : (w : Widths) (ds : List Device) → AllBytes ds → fit (widthsOf w ds) ≡ fit w && allSound ds
+unfolding widthsOf allSound AllBytes
+fit-of w [] y = go (fit w)
+  where
+    go : (b : Bool) → b ≡ b && true
+    go true = refl
+    go false = refl
+fit-of w (d ∷ ds) y = fit-of (widthsWith w d) ds (y .1) ∙ ap (λ (t : Bool). t && allSound ds) (fit-more w d (y .0)) ∙ go (fit w) (soundOf d)
+  where
+    go : (a b : Bool) → a && b && allSound ds ≡ a && (b && allSound ds)
+    go true b = refl
+    go false b = refl
+
+pub fit-all : (ds : List Device) → AllBytes ds → fit (widthsOf noWidths ds) ≡ allSound ds
+fit-all ds y = fit-of noWidths ds y

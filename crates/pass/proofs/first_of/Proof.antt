@@ -1,0 +1,13 @@
+-- `pass::first_of` meets its contract. Assumes nothing.
+use Rattle.words.proofs.Tests.{tests}
+use Rattle.pass.proofs.first_of.Statement.{statement}
+use Rattle.pass.proofs.first_of.Tie as tie
+
+returns : tie.Need-returns
+returns c = search tests
+
+returns-2 : tie.Need-returns-2
+returns-2 c = search tests
+
+pub first-of-spec : {M : Type 1} → statement M
+first-of-spec = tie.close (tie.spec returns returns-2)

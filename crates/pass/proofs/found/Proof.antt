@@ -1,0 +1,20 @@
+-- `pass::found` meets its contract. Assumes nothing.
+use Rattle.words.proofs.Tests.{tests}
+use borrow.Author.Needs.{needs}
+use Rattle.pass.proofs.found.Statement.{statement}
+use Rattle.pass.proofs.found.Tie as tie
+
+returns : tie.Need-returns
+returns c = search tests
+
+fit-requires : tie.Need-fit-requires
+fit-requires c κs = search needs
+
+sound-number-requires : tie.Need-sound-number-requires
+sound-number-requires c κs = search needs
+
+returns-2 : tie.Need-returns-2
+returns-2 c = simp (c .before .fit .ensures, c .sound-number .ensures) (search tests)
+
+pub found-spec : {M : Type 1} → statement M
+found-spec = tie.close (tie.spec returns fit-requires sound-number-requires returns-2)

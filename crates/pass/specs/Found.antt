@@ -1,0 +1,39 @@
+-- Auxiliary: the number of a call as it is found, first by its arguments, then by a pass over the records. `number` of `calls` is what is believed.
+-- Assumes nothing.
+use Prim.Native.Nat.{ℕ}
+use mathlib.Core.Bool.{Bool, _&&_}
+use mathlib.Core.List.{List, [], _∷_}
+use lib.Dec.{eqb, leb}
+use lib.ListN.{length}
+use Rattle.words.specs.Choice.{if}
+use Rattle.wire.specs.Shift.{sizeNumber}
+use Rattle.device.specs.declared.Device.{Device}
+use Rattle.calls.specs.Numbers.{chainNumber, driverNumber, soundNumber, allSound, firstOf}
+
+-- the number of a call that names a driver, by its arguments; own is that of what the driver is given or asked
+abbrev pub byArguments : ℕ → ℕ → ℕ → ℕ
+byArguments n driver own = firstOf (chainNumber n ∷ driverNumber n driver ∷ own ∷ [])
+
+-- the number of an access, by its arguments
+abbrev pub accessByArguments : ℕ → ℕ → ℕ → ℕ → ℕ
+accessByArguments n c sent room = firstOf (chainNumber n ∷ sizeNumber c sent room ∷ [])
+
+-- how many of n records are passed over: none where the number is known
+abbrev pub toPass : ℕ → ℕ → ℕ
+toPass first n = if (eqb first 0) n 0
+
+-- and none where there isn't room for their words among w
+abbrev pub toPassIn : ℕ → ℕ → ℕ → ℕ
+toPassIn first n w = if (eqb first 0 && leb n w) n 0
+
+-- how many of n records take one of w words: all or none
+abbrev pub inRoom : ℕ → ℕ → ℕ
+inRoom n w = if (leb n w) n 0
+
+-- the number once they are passed, and are sound or not
+abbrev pub found : ℕ → Bool → ℕ
+found first sound = if (eqb first 0) (soundNumber sound) first
+
+-- the number of a call on a chain that names a driver
+abbrev pub callNumber : List Device → ℕ → ℕ → ℕ
+callNumber ds driver own = firstOf (chainNumber (length ds) ∷ driverNumber (length ds) driver ∷ own ∷ soundNumber (allSound ds) ∷ [])

@@ -1,0 +1,3 @@
+pub mod Widths
+pub mod Found
+pub mod OneByOne

@@ -1,0 +1,80 @@
+-- Auxiliary: whether every record of a chain is sound, from the bits of all their fields together. `allSound` is what is believed.
+-- Assumes nothing.
+use Prim.Native.Nat.{ℕ, _+_, _*_, _/_, _%_, _<_}
+use mathlib.Core.Bool.{Bool, _&&_}
+use mathlib.Core.List.{List, [], _∷_}
+use lib.Bits.{bitOr}
+use lib.Dec.{ltb}
+use Rattle.words.specs.Choice.{if}
+use Rattle.device.specs.declared.Device.{Device}
+use Rattle.pass.specs.declared.Widths.{Widths}
+
+-- eight bytes in a row, the first lowest
+abbrev pub eightBytes : ℕ → ℕ → ℕ → ℕ → ℕ → ℕ → ℕ → ℕ → ℕ
+eightBytes a b c d e f g h =
+    a + b * 256 + c * 65536 + d * 16777216 + e * 4294967296 + f * 1099511627776 + g * 281474976710656 + h * 72057594037927936
+
+-- two bytes in a row, the first lowest
+abbrev pub twoBytes : ℕ → ℕ → ℕ
+twoBytes a b = a + b * 256
+
+-- the greater of two numbers
+abbrev pub greater : ℕ → ℕ → ℕ
+greater a b = if (ltb a b) b a
+
+-- the bytes of a record that are global, limit, gpio, ports, test, types, i and e
+abbrev pub firstBytes : Device → ℕ
+firstBytes x =
+    eightBytes (x .registers .controls .global) (x .registers .controls .limit) (x .registers .controls .gpio) (x .registers .controls .ports)
+    (x .registers .controls .test) (x .registers .controls .types) (x .registers .config .i) (x .registers .config .e)
+
+-- and those that are b and s
+abbrev pub lastBytes : Device → ℕ
+lastBytes x = twoBytes (x .registers .config .b) (x .registers .config .s)
+
+-- of no record
+abbrev pub noWidths : Widths
+noWidths = record { first = 0; last = 0; pins = 0; blink = 0; interrupt = 0 }
+
+-- of one record more: its fields' bits over those that are there, and the greater blink count
+abbrev pub widthsWith : Widths → Device → Widths
+widthsWith w x =
+    record {
+      first = bitOr (w .first) (firstBytes x);
+      last = bitOr (w .last) (lastBytes x);
+      pins = bitOr (w .pins) (x .registers .pins);
+      blink = greater (w .blink) (x .registers .blink);
+      interrupt = bitOr (w .interrupt) (x .registers .keys .interrupt);
+    }
+
+-- of records, one after the other
+unfoldable pub widthsOf : Widths → List Device → Widths
+widthsOf w [] = w
+widthsOf w (d ∷ ds) = widthsOf (widthsWith w d) ds
+
+-- no field has a bit too high, and the greatest blink count is below 4,000,000
+abbrev pub fit : Widths → Bool
+fit w =
+    (ltb (w .first / 1 % 256) 16 && ltb (w .first / 256 % 256) 8 && ltb (w .first / 65536 % 256) 32 && ltb (w .first / 4294967296 % 256) 2)
+    && (ltb (w .first / 281474976710656 % 256) 2 && ltb (w .first / 72057594037927936 % 256) 2 && ltb (w .last / 1 % 256) 2 && ltb (w .last / 256 % 256) 2)
+    && ltb (w .interrupt) 2
+    && ltb (w .pins) 32
+    && ltb (w .blink) 4000000
+
+-- a record whose bytes are bytes
+pub record Bytes (d : Device) : Type 0 where
+  pub global : d .registers .controls .global < 256
+  pub limit : d .registers .controls .limit < 256
+  pub gpio : d .registers .controls .gpio < 256
+  pub ports : d .registers .controls .ports < 256
+  pub test : d .registers .controls .test < 256
+  pub types : d .registers .controls .types < 256
+  pub i : d .registers .config .i < 256
+  pub e : d .registers .config .e < 256
+  pub b : d .registers .config .b < 256
+  pub s : d .registers .config .s < 256
+
+-- records whose bytes are
+unfoldable pub AllBytes : List Device → Type 0
+AllBytes [] = Unit {0}
+AllBytes (d ∷ ds) = Bytes d × AllBytes ds

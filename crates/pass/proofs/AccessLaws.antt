@@ -69,7 +69,7 @@ module _ (ds : List Device) (c : ℕ) (sent room : List ℕ) where
           ap (λ (xs : List Device). soundNumber (allSound xs)) whole
       go false e = refl
 
-  pub access-refused : (nr ≡ 0 → ⊥) → record { number = nr; records = ds; back = room } ≡ outcome (access c sent room) ds
+  pub access-refused : (nr ≡ 0 → ⊥) → outcome (access c sent room) ds ≡ record { number = nr; records = ds; back = room }
   unfolding after reply
   access-refused z = rw (← access-number, ne-eqb nr 0 z)
 
@@ -115,7 +115,7 @@ module _ (ds : List Device) (c : ℕ) (sent room : List ℕ) where
     abbrev next : List ℕ
     next = wordsAfter (wordsTo ds zeros m) n c sent room
 
-    pub access-served : record { number = nr; records = takenTo ds next (inRoom n (length next)); back = roomAfter (wordsTo ds zeros m) n c sent room } ≡ outcome (access c sent room) ds
+    pub access-served : outcome (access c sent room) ds ≡ record { number = nr; records = takenTo ds next (inRoom n (length next)); back = roomAfter (wordsTo ds zeros m) n c sent room }
     unfolding after reply
     access-served =
         let each : tabulate n (λ i. taken (getD ds i powerUp) (getD next i 0)) ≡ allTaken ds (shifted (shiftWords ds) sent c) =

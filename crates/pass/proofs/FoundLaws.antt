@@ -113,22 +113,22 @@ module _ (ds : List Device) (driver own : ℕ) where
 -- ---- the outcome
 module _ (ds : List Device) (j : ℕ) (st : Step) where
   pub give-served : callNumber ds j (stepNumber st) ≡ 0
-      → record { number = 0; records = set ds (j - 1) (stepped st (getD ds (j - 1) powerUp)); back = [] } ≡ outcome (give j st) ds
+      → outcome (give j st) ds ≡ record { number = callNumber ds j (stepNumber st); records = set ds (j - 1) (stepped st (getD ds (j - 1) powerUp)); back = [] }
   unfolding number after reply
   give-served z = rw z
 
   pub give-refused : (callNumber ds j (stepNumber st) ≡ 0 → ⊥)
-      → record { number = callNumber ds j (stepNumber st); records = ds; back = [] } ≡ outcome (give j st) ds
+      → outcome (give j st) ds ≡ record { number = callNumber ds j (stepNumber st); records = ds; back = [] }
   unfolding number after reply
   give-refused z = rw (ne-eqb (callNumber ds j (stepNumber st)) 0 z)
 
 module _ (ds : List Device) (j : ℕ) (q : Question) where
   pub ask-served : callNumber ds j (questionNumber q) ≡ 0
-      → record { number = 0; records = ds; back = answerTo q (getD ds (j - 1) powerUp) } ≡ outcome (ask j q) ds
+      → outcome (ask j q) ds ≡ record { number = 0; records = ds; back = answerTo q (getD ds (j - 1) powerUp) }
   unfolding number after reply
   ask-served z = rw z
 
   pub ask-refused : (callNumber ds j (questionNumber q) ≡ 0 → ⊥)
-      → record { number = callNumber ds j (questionNumber q); records = ds; back = refusedTo q } ≡ outcome (ask j q) ds
+      → outcome (ask j q) ds ≡ record { number = callNumber ds j (questionNumber q); records = ds; back = refusedTo q }
   unfolding number after reply
   ask-refused z = rw (ne-eqb (callNumber ds j (questionNumber q)) 0 z)

@@ -1,0 +1,12 @@
+-- `answers::segments_refused` meets its contract. Assumes nothing.
+use mathlib.Core.Path.{refl}
+use Rattle.words.specs.Lists.{tabulate}
+use Rattle.answers.proofs.segments_refused.Statement.{statement}
+use Rattle.answers.proofs.segments_refused.Tie as tie
+
+returns : tie.Need-returns
+unfolding tabulate
+returns c = refl
+
+pub segments-refused-spec : {M : Type 1} → statement M
+segments-refused-spec = tie.close (tie.spec returns)

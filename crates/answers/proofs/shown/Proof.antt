@@ -1,0 +1,16 @@
+-- `answers::shown` meets its contract. Assumes nothing.
+use borrow.Author.Needs.{needs}
+use Rattle.answers.proofs.shown.Statement.{statement}
+use Rattle.answers.proofs.shown.Tie as tie
+
+shown-requires : tie.Need-shown-requires
+shown-requires c κs = search needs
+
+plane-index-requires : tie.Need-plane-index-requires
+plane-index-requires c κs = search needs
+
+returns : tie.Need-returns
+returns c = simp (c .before .shown .ensures, c .plane-index .ensures)
+
+pub shown-spec : {M : Type 1} → statement M
+shown-spec = tie.close (tie.spec shown-requires plane-index-requires returns)

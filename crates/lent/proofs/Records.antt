@@ -1,0 +1,94 @@
+-- The types that the walks use.
+-- Assumes nothing.
+use Prim.Native.Nat.{ℕ, _<_, _^_}
+use mathlib.Core.Path.{refl}
+use mathlib.Core.List.{List}
+use lib.ListN.{set}
+use mir.Val.{vstruct, ofList}
+use denote.Array.{Array}
+use denote.Plain.{UInt}
+use mathlib.Core.List.{[], _∷_}
+use mir.Syntax.{w8, w16, w32, w64}
+use denote.Laws.{Is}
+use denote.Struct.Laws as LL
+use Rattle.device.specs.declared.Device.{Device}
+use Rattle.pass.specs.Widths.{Bytes}
+use Rattle.registers.proofs.Registers as G
+use Rattle.registers.proofs.Registers.Laws as G′
+use Rattle.controls.proofs.Controls as L
+use Rattle.controls.proofs.Controls.Laws as L′
+use Rattle.controls.proofs.Config as F
+use Rattle.controls.proofs.Config.Laws as F′
+use Rattle.registers.specs.Record.{withPlanes}
+use Rattle.digits.proofs.Planes as Q
+use Rattle.digits.proofs.Planes.Laws as Q′
+use Rattle.device.proofs.Device as D
+use Rattle.device.proofs.Device.Laws as D′
+use Rattle.pass.proofs.Widths as W
+use Rattle.pass.proofs.Widths.Laws as W′
+use Rattle.lent.proofs.Walk.{Data, num, rec}
+use Rattle.lent.proofs.Places.{same, vals, is-set}
+
+abbrev pub size : Data
+size = num w64
+
+abbrev pub byte : Data
+byte = num w8
+
+abbrev pub half : Data
+half = num w16
+
+abbrev pub word : Data
+word = num w32
+
+abbrev pub device : Data
+device = rec D.the-type D′.the-laws D′.the-plain D′.the-copy
+
+abbrev pub widths : Data
+widths = rec W.the-type W′.the-laws W′.the-plain W′.the-copy
+
+-- the bytes in a row of a record that is a value of its type
+pub bytes-of : (d : Device) → Is (device .row) d (device .val d ∷ []) → Bytes d
+bytes-of d is =
+    let r = LL.owed G.the-type G′.the-laws (d .registers) _ (LL.owed D.the-type D′.the-laws d (device .val d ∷ []) is .0) in
+    let c = LL.owed L.the-type L′.the-laws (d .registers .controls) _ (r .0) in
+    let f = LL.owed F.the-type F′.the-laws (d .registers .config) _ (r .1 .0) in
+    record {
+      global = c .1 .0 .1;
+      limit = c .1 .1 .0 .1;
+      gpio = c .1 .1 .1 .0 .1;
+      ports = c .1 .1 .1 .1 .0 .1;
+      test = c .1 .1 .1 .1 .1 .0 .1;
+      types = c .1 .1 .1 .1 .1 .1 .0 .1;
+      i = f .0 .1;
+      e = f .1 .0 .1;
+      b = f .1 .1 .0 .1;
+      s = f .1 .1 .1 .0 .1;
+    }
+
+-- its planes are rows of sixteen bytes
+pub planes-of : (d : Device) → Is (device .row) d (device .val d ∷ [])
+    → Is (Array (UInt w8) 16) (same (d .registers .planes .p0)) (vstruct (ofList (vals (d .registers .planes .p0))) ∷ []) × Is (Array (UInt w8) 16) (same (d .registers .planes .p1)) (vstruct (ofList (vals (d .registers .planes .p1))) ∷ [])
+planes-of d is =
+    let r = LL.owed G.the-type G′.the-laws (d .registers) _ (LL.owed D.the-type D′.the-laws d (device .val d ∷ []) is .0) in
+    let q = LL.owed Q.the-type Q′.the-laws (d .registers .planes) _ (r .1 .1 .1 .1 .0) in
+    (q .0, q .1 .0)
+
+-- a record with a byte of each plane and the shift word replaced
+abbrev pub stored : Device → ℕ → ℕ → ℕ → ℕ → Device
+stored d k y z s =
+    record {
+      registers = withPlanes (d .registers) (record { p0 = set (d .registers .planes .p0) k y; p1 = set (d .registers .planes .p1) k z });
+      shift = s;
+      fitted = d .fitted;
+    }
+
+pub is-stored : (d : Device) (k y z s : ℕ) → y < 2 ^ 8 → z < 2 ^ 8 → s < 2 ^ 16 → Is (device .row) d (device .val d ∷ []) → Is (device .row) (stored d k y z s) (device .val (stored d k y z s) ∷ [])
+is-stored d k y z s hy hz hs is =
+    let e : Device = stored d k y z s in
+    let a = LL.owed D.the-type D′.the-laws d (device .val d ∷ []) is in
+    let r = LL.owed G.the-type G′.the-laws (d .registers) _ (a .0) in
+    let ps = planes-of d is in
+    let q = LL.owes Q.the-type Q′.the-laws (e .registers .planes) (is-set 16 (d .registers .planes .p0) _ (ps .0) k y hy, (is-set 16 (d .registers .planes .p1) _ (ps .1) k z hz, tt)) in
+    let g = LL.owes G.the-type G′.the-laws (e .registers) (r .0, (r .1 .0, (r .1 .1 .0, (r .1 .1 .1 .0, (q, r .1 .1 .1 .1 .1))))) in
+    LL.owes D.the-type D′.the-laws e (g, ((refl, hs), a .1 .1))

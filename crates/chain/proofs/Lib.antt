@@ -1,7 +1,4 @@
-pub mod Asks
-pub mod Calls
+pub mod Answers
+pub mod Steps
 pub mod Gives
-pub mod Logic
-pub mod Params
-pub mod Records
-pub mod Walk
+pub mod Asks

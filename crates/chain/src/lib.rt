@@ -1,51 +1,14 @@
 // The calls on a chain of MAX6954: a lent row of records, nearest the controller first. Drivers are counted from 1.
 ghost use mathlib.Core.Path.{_≡_};
-ghost use lib.ListN.{length};
+ghost use mathlib.Core.List.{[], _∷_};
 ghost use Rattle.device.specs.PowerUp.{powerUp};
-ghost use Rattle.calls.specs.Calls.{access as accessCall, give, ask, scan, levels as pinLevels, clocks as masterClocks, plane, segments, brightness, shown, interrupt};
-ghost use Rattle.calls.specs.Served.{number, after, reply, only};
-ghost use Rattle.survey.specs.Survey.{surveyOf};
-ghost use Rattle.survey.specs.Change.{applied};
+ghost use Rattle.calls.specs.Calls.{access as accessCall, give, ask, scan, levels as pinLevels, clocks as masterClocks, plane, planeShown, segments, brightness, shown, interrupt};
+ghost use Rattle.calls.specs.Outcome.{outcome};
+use answers::InterruptAnswer;
+use answers::ShownAnswer;
 use brightness::BrightnessAnswer;
 use device::Device;
 use display::SegmentAnswer;
-use survey::Change;
-use survey::InterruptAnswer;
-use survey::Seen;
-use survey::ShownAnswer;
-use survey::Survey;
-
-// What a call needs to know of the chain: one pass over its records.
-fn surveyed(chain: &[Device], driver: usize) -> Survey
-    ensures { λ r. ⌜ r ≡ surveyOf (length (now (chain .entry))) (now (chain .entry)) driver ⌝ }
-{
-    let n = chain.len();
-    let m = lanes::counted(n);
-    let mut s = Seen::new();
-    let mut i = 0;
-    while i < m {
-        s = s.with(chain[i]);
-        i += 1;
-    }
-    let at = survey::place(driver, m);
-    if at < m {
-        return Survey::new(n, driver, s, chain[at]);
-    }
-    Survey::unnamed(n, driver, s)
-}
-
-// The records that a call changes, changed in place; its number is returned.
-fn changed(chain: &mut [Device], change: Change) -> u8
-    ensures { λ r. ⌜ (r ≡ change .number) × (now (chain .exit) ≡ applied (length (now (chain .entry))) (now (chain .entry)) change) ⌝ }
-{
-    let m = change.stop(chain.len());
-    let mut i = change.start();
-    while i < m {
-        chain[i] = change.next(i, chain[i]);
-        i += 1;
-    }
-    change.number
-}
 
 // A driver at power-up.
 #[no_mangle]
@@ -63,11 +26,18 @@ pub extern "C" fn max6954_access(
     sent: &[u8],
     answer: &mut [u8],
 ) -> u8
-    ensures { λ r. ⌜ (r ≡ number (accessCall clocks (now (sent .entry)) (now (answer .entry))) (now (chain .entry))) × (now (chain .exit) ≡ after (accessCall clocks (now (sent .entry)) (now (answer .entry))) (now (chain .entry))) × (now (answer .exit) ≡ reply (accessCall clocks (now (sent .entry)) (now (answer .entry))) (now (chain .entry))) ⌝ }
+    ensures { λ r. ⌜ outcome (accessCall clocks (now (sent .entry)) (now (answer .entry))) (now (chain .entry)) ≡ record { number = r; records = now (chain .exit); back = now (answer .exit) } ⌝ }
 {
-    let s = surveyed(chain, 0);
-    let c = s.access(clocks, sent, answer);
-    changed(chain, c)
+    let n = chain.len();
+    let first = pass::access_by_arguments(n, clocks, sent.len(), answer.len());
+    let mut words = [0; 16];
+    let number = lent::shift_words(chain, first, &mut words);
+    if number != 0 {
+        return number;
+    }
+    wire::shift(&mut words, n, clocks, sent, answer);
+    lent::take_words(chain, &words);
+    number
 }
 
 // A key scan of one driver: the closed keys of groups A to D.
@@ -80,31 +50,46 @@ pub extern "C" fn max6954_scan(
     c: u8,
     d: u8,
 ) -> u8
-    ensures { λ r. ⌜ (r ≡ number (give driver (scan a b c d)) (now (chain .entry))) × (now (chain .exit) ≡ after (give driver (scan a b c d)) (now (chain .entry))) ⌝ }
+    ensures { λ r. ⌜ outcome (give driver (scan a b c d)) (now (chain .entry)) ≡ record { number = r; records = now (chain .exit); back = [] } ⌝ }
 {
-    let s = surveyed(chain, driver);
-    let change = s.scan(a, b, c, d);
-    changed(chain, change)
+    let own = pass::scan_number(a, b, c, d);
+    let number = lent::call_number(chain, driver, own);
+    if number == 0 {
+        let at = driver - 1;
+        let old = chain[at];
+        chain[at] = old.scanned(a, b, c, d);
+    }
+    number
 }
 
 // The pin levels of one driver.
 #[no_mangle]
 pub extern "C" fn max6954_set_pins(chain: &mut [Device], driver: usize, levels: u32) -> u8
-    ensures { λ r. ⌜ (r ≡ number (give driver (pinLevels levels)) (now (chain .entry))) × (now (chain .exit) ≡ after (give driver (pinLevels levels)) (now (chain .entry))) ⌝ }
+    ensures { λ r. ⌜ outcome (give driver (pinLevels levels)) (now (chain .entry)) ≡ record { number = r; records = now (chain .exit); back = [] } ⌝ }
 {
-    let s = surveyed(chain, driver);
-    let change = s.set_pins(levels);
-    changed(chain, change)
+    let own = pass::levels_number(levels);
+    let number = lent::call_number(chain, driver, own);
+    if number == 0 {
+        let at = driver - 1;
+        let old = chain[at];
+        chain[at] = old.with_pins(levels);
+    }
+    number
 }
 
 // Master clocks given to one driver.
 #[no_mangle]
 pub extern "C" fn max6954_add_clocks(chain: &mut [Device], driver: usize, clocks: u32) -> u8
-    ensures { λ r. ⌜ (r ≡ number (give driver (masterClocks clocks)) (now (chain .entry))) × (now (chain .exit) ≡ after (give driver (masterClocks clocks)) (now (chain .entry))) ⌝ }
+    ensures { λ r. ⌜ outcome (give driver (masterClocks clocks)) (now (chain .entry)) ≡ record { number = r; records = now (chain .exit); back = [] } ⌝ }
 {
-    let s = surveyed(chain, driver);
-    let change = s.add_clocks(clocks);
-    changed(chain, change)
+    let own = pass::clocks_number(clocks);
+    let number = lent::call_number(chain, driver, own);
+    if number == 0 {
+        let at = driver - 1;
+        let old = chain[at];
+        chain[at] = old.clocked(clocks);
+    }
+    number
 }
 
 // Digits first to last of the plane that a driver now shows, of two lent planes; the empty part where refused.
@@ -116,10 +101,15 @@ pub fn max6954_plane<'a>(
     first: usize,
     last: usize,
 ) -> &'a [u8]
-    ensures { λ r. ⌜ now r ≡ reply (ask driver (plane (now (p0 .entry)) (now (p1 .entry)) first last)) (now (chain .entry)) ⌝ }
+    ensures { λ r. ⌜ outcome (ask driver (plane (now (p0 .entry)) (now (p1 .entry)) first last)) (now (chain .entry)) .back ≡ now r ⌝ }
 {
-    let s = surveyed(chain, driver);
-    s.plane(p0, p1, first, last)
+    let own = pass::plane_number(p0, p1, first, last);
+    let number = lent::call_number(chain, driver, own);
+    if number != 0 {
+        return answers::plane_refused(number, p0, p1, first, last);
+    }
+    let at = driver - 1;
+    display::plane(chain[at], p0, p1, first, last)
 }
 
 // The number of that call.
@@ -132,10 +122,36 @@ pub extern "C" fn max6954_plane_number(
     first: usize,
     last: usize,
 ) -> u8
-    ensures { λ r. ⌜ r ≡ number (ask driver (plane (now (p0 .entry)) (now (p1 .entry)) first last)) (now (chain .entry)) ⌝ }
+    ensures { λ r. ⌜ outcome (ask driver (plane (now (p0 .entry)) (now (p1 .entry)) first last)) (now (chain .entry)) .number ≡ r ⌝ }
 {
-    let s = surveyed(chain, driver);
-    s.plane_number(p0, p1, first, last)
+    let own = blink::plane_number(p0, p1, first, last);
+    let number = lent::call_number(chain, driver, own);
+    if number != 0 {
+        return answers::number_refused(number, p0, p1, first, last);
+    }
+    let at = driver - 1;
+    answers::number_served(chain[at], p0, p1, first, last)
+}
+
+// Its number, and which of the two lent planes the part is of.
+#[no_mangle]
+pub extern "C" fn max6954_plane_shown(
+    chain: &[Device],
+    driver: usize,
+    p0: &[u8],
+    p1: &[u8],
+    first: usize,
+    last: usize,
+) -> ShownAnswer
+    ensures { λ r. ⌜ outcome (ask driver (planeShown (now (p0 .entry)) (now (p1 .entry)) first last)) (now (chain .entry)) ≡ record { number = r .number; records = now (chain .entry); back = r .plane ∷ [] } ⌝ }
+{
+    let own = blink::plane_number(p0, p1, first, last);
+    let number = lent::call_number(chain, driver, own);
+    if number != 0 {
+        return answers::plane_shown_refused(number, p0, p1, first, last);
+    }
+    let at = driver - 1;
+    answers::plane_shown(chain[at], p0, p1, first, last)
 }
 
 // What a cathode of one driver shows under two glyph tables, one for 14 and one for 16 segments.
@@ -147,10 +163,15 @@ pub extern "C" fn max6954_segments(
     font14: &[u16],
     font16: &[u16],
 ) -> SegmentAnswer
-    ensures { λ r. ⌜ r ≡ record { number = number (ask driver (segments cathode (now (font14 .entry)) (now (font16 .entry)))) (now (chain .entry)); pins = reply (ask driver (segments cathode (now (font14 .entry)) (now (font16 .entry)))) (now (chain .entry)) } ⌝ }
+    ensures { λ r. ⌜ outcome (ask driver (segments cathode (now (font14 .entry)) (now (font16 .entry)))) (now (chain .entry)) ≡ record { number = r .number; records = now (chain .entry); back = r .pins } ⌝ }
 {
-    let s = surveyed(chain, driver);
-    s.segments(cathode, font14, font16)
+    let own = display::segments_number(cathode, font14, font16);
+    let number = lent::call_number(chain, driver, own);
+    if number != 0 {
+        return answers::segments_refused(number, cathode, font14, font16);
+    }
+    let at = driver - 1;
+    display::segments(chain[at], cathode, font14, font16)
 }
 
 // The brightness of a digit of one driver.
@@ -160,26 +181,41 @@ pub extern "C" fn max6954_brightness(
     driver: usize,
     digit: usize,
 ) -> BrightnessAnswer
-    ensures { λ r. ⌜ r ≡ record { number = number (ask driver (brightness digit)) (now (chain .entry)); sixteenths = only (reply (ask driver (brightness digit)) (now (chain .entry))) } ⌝ }
+    ensures { λ r. ⌜ outcome (ask driver (brightness digit)) (now (chain .entry)) ≡ record { number = r .number; records = now (chain .entry); back = r .sixteenths ∷ [] } ⌝ }
 {
-    let s = surveyed(chain, driver);
-    s.brightness(digit)
+    let own = pass::brightness_number(digit);
+    let number = lent::call_number(chain, driver, own);
+    if number != 0 {
+        return answers::brightness_refused(number, digit);
+    }
+    let at = driver - 1;
+    brightness::brightness(chain[at], digit)
 }
 
 // The plane that one driver shows.
 #[no_mangle]
 pub extern "C" fn max6954_shown(chain: &[Device], driver: usize) -> ShownAnswer
-    ensures { λ r. ⌜ r ≡ record { number = number (ask driver shown) (now (chain .entry)); plane = only (reply (ask driver shown) (now (chain .entry))) } ⌝ }
+    ensures { λ r. ⌜ outcome (ask driver shown) (now (chain .entry)) ≡ record { number = r .number; records = now (chain .entry); back = r .plane ∷ [] } ⌝ }
 {
-    let s = surveyed(chain, driver);
-    s.shown()
+    let own = pass::shown_number();
+    let number = lent::call_number(chain, driver, own);
+    if number != 0 {
+        return answers::shown_refused(number);
+    }
+    let at = driver - 1;
+    answers::shown(chain[at])
 }
 
 // Whether the interrupt of one driver is raised.
 #[no_mangle]
 pub extern "C" fn max6954_interrupt(chain: &[Device], driver: usize) -> InterruptAnswer
-    ensures { λ r. ⌜ r ≡ record { number = number (ask driver interrupt) (now (chain .entry)); raised = only (reply (ask driver interrupt) (now (chain .entry))) } ⌝ }
+    ensures { λ r. ⌜ outcome (ask driver interrupt) (now (chain .entry)) ≡ record { number = r .number; records = now (chain .entry); back = r .raised ∷ [] } ⌝ }
 {
-    let s = surveyed(chain, driver);
-    s.interrupt()
+    let own = pass::interrupt_number();
+    let number = lent::call_number(chain, driver, own);
+    if number != 0 {
+        return answers::interrupt_refused(number);
+    }
+    let at = driver - 1;
+    answers::interrupt(chain[at])
 }

@@ -1,83 +1,219 @@
--- `chain::max6954_access` meets its contract: a walk of its MIR, by hand. It calls `surveyed`, `Survey::access` on the survey with the plain slices, and `changed` on its result.
+-- `chain::max6954_access` meets its contract: a walk of its MIR, by hand. The words are a local array, kept as a row of elements: it is lent to `shift_words` and to `wire::shift`, each for a lifetime of the call's own, and shared with `take_words`.
 -- Assumes nothing.
-use denote.Triple.Walked.{stay-dropped, goes-dropped}
+use native.Mathlib.Omega.{arith}
+use lib.Dec.{eqb, T as Holds, eqb→eq}
+use lib.ListN.{take, drop as dropped, replicate, length-set, length-append}
+use mathlib.Core.Bool.{Bool, true, false, not}
+use mathlib.Core.List.{_++_}
+use mir.Syntax.{w16, tyUnit, tyRef, erased, mut, imm}
+use mir.Val.{Val, vunit, WT, hasTy}
+use contract.Fact.{factI}
+use base.Fml.{flent, fsep}
+use types.Kit.{Item, put, some, later, use3, await, pick, feqI}
+use types.Part.{rep}
+use types.SemTy.{Arr, cells}
+use types.Share.{arr-parts}
+use types.Tokens.{lft-new, lft-end, lent-back}
+use denote.Array.{Array, array-repeat, array-lawful}
+use denote.Index.{whole-in, whole-out}
+use denote.Lend.{Held, lends-slice, lends-shr-slice, slice-back}
+use denote.Memory.{mem as memOf, shares, pointee}
+use denote.Plain.{uint-copy, uint-lawful}
 use denote.Signature.{shrSliceOf}
-use Rattle.chain.proofs.Logic.{_≡_, refl, sym, ap, _∙_, ℕ, List, [], _∷_, lit<, URA, named, w8, vint, length, SProp, emp, id⊢, via, fst∗, Lft, GName, Share, ftrue, flft, Memory, Routine, Heap, Tables, Atoms, Fun, givenOf, tables, tablesOf, Given, ‵, raw, _⊛_, _$_, _∵_, !, qed, move, drop, use2, feqL, split, join, rewrite, fsplit, fjoin, suffices, frame, done, agg, whole, sub, look-in, look, init, stop, hop, fld, from, load, lit, addr, and-then, no-more, assigns, land, returns, enter, alloc1, alloc0, params1, pass1, pass0, free0, fmOf, owns, Is, RefT, MutSlice, ShrSlice, Room, finally, slice-vals, mut-slice-tells, shr-slice-tells, plain, nothing, owned, Bound, onEntry, tripleOf, Triple, cited, says, Stays, gave-slice, goes-gave-slice, ends-at, yes}
+use denote.Slice.{sliceTy}
+use denote.Steps.{peeks, only}
+use denote.Triple.Walked.{stay-dropped, goes-dropped}
+use Rattle.lent.proofs.Logic.{_≡_, refl, sym, ap, _∙_, subst, ℕ, zero-le, _+_, _-_, _<_, _≤_, _^_, le-antisymm, List, [], _∷_, lit<, ltb→lt, nltb→le, length, getD, set, URA, fullShare, named, w8, w64, tyInt, tyPtr, tyBool, vint, vptr, SProp, emp, id⊢, via, fst∗, Lft, GName, Share, ftrue, fat, froom, flft, Memory, Routine, Heap, Tables, Atoms, Fun, givenOf, tables, tablesOf, Given, ‵, _⊛_, _$_, _∵_, !, qed, move, keep, drop, split, join, rewrite, fsplit, fjoin, suffices, frame, done, whole, sub, look-in, look, look-raw, init, store, store-raw, forget, stop, hop, fld, from, load, lit, of-opd, bin, and-then, no-more, assigns, assigns-last, land, returns, enter, alloc1, alloc0, params1, pass1, pass0, free0, fmOf, RattleType, owns, Is, shows, RefT, pureI, sliceVal, MutSlice, ShrSlice, Room, at-slice, slice-vals, mut-slice-tells, shr-slice-tells, row, place-is, elem-out, elem-back, elem-put, opens-slice, closes-slice, looks-slice, shuts-slice, plain, nothing, owned, Bound, tripleOf, Triple, cited, says, Stays, stay-slice, goes-slice, ends-at, yes, scaled-fits, raw, use1, use2, feqL, agg, addr, finally, onEntry, gave-slice, goes-gave-slice}
 use Rattle.device.specs.declared.Device.{Device}
-use Rattle.survey.specs.Calls.{accessed, accessRoom}
-use Rattle.survey.specs.Change.{applied}
-use Rattle.survey.specs.declared.Change.{Change}
-use Rattle.survey.proofs.ChainLaws.{access-number, access-after, access-reply}
-use Rattle.survey.proofs.Survey.access as work
-use Rattle.survey.proofs.Survey.access.Symbol as work-def
-use Rattle.survey.proofs.Survey.access.Met as work-thm
-use Rattle.chain.proofs.Records.{size, byte, device, survey, change, number-fits}
-use Rattle.chain.proofs.Walk.{Walk, calls-fn, lands-known, leave, proves}
-use Rattle.chain.proofs.Calls.{ref, of, Surveyed, Changed, surveys-mut, changes}
-use Rattle.chain.proofs.surveyed.Symbol as surveyed-def
-use Rattle.chain.proofs.surveyed.Met as surveyed-thm
-use Rattle.chain.proofs.changed.Symbol as changed-def
-use Rattle.chain.proofs.changed.Met as changed-thm
+use Rattle.calls.specs.Calls.{access as accessCall}
+use Rattle.calls.specs.Numbers.{allSound}
+use Rattle.calls.specs.Outcome.{outcome}
+use Rattle.wire.specs.Shift.{wordsAfter, roomAfter}
+use Rattle.wire.proofs.shift as shift
+use Rattle.wire.proofs.shift.Symbol as shift-def
+use Rattle.wire.proofs.shift.Met as shift-thm
+use Rattle.pass.specs.Found.{accessByArguments, toPassIn, inRoom, found}
+use Rattle.pass.specs.OneByOne.{wordsTo, takenTo}
+use Rattle.pass.proofs.FoundLaws.{pass-in-le}
+use Rattle.pass.proofs.StepLaws.{length-words}
+use Rattle.pass.proofs.AccessLaws.{access-refused, access-served, length-next}
+use Rattle.pass.proofs.access_by_arguments as early′
+use Rattle.pass.proofs.access_by_arguments.Symbol as early-def
+use Rattle.pass.proofs.access_by_arguments.Met as early-thm
+use Rattle.lent.proofs.Records.{size, byte, half, device}
+use Rattle.lent.proofs.Walk.{Walk, LentShared, lends-shared, shared-back, calls-value, calls-fn, lands-known, leave, leave-room, forks-to, proves}
+use Rattle.lent.proofs.Arrays.{S, array-opens, array-closes, gives-up}
+use Rattle.chain.proofs.Asks.{not-zero, is-zero}
+use Rattle.lent.proofs.shift_words as looked
+use Rattle.lent.proofs.shift_words.Symbol as looked-def
+use Rattle.lent.proofs.shift_words.Met as looked-thm
+use Rattle.lent.proofs.take_words as taking
+use Rattle.lent.proofs.take_words.Symbol as taking-def
+use Rattle.lent.proofs.take_words.Met as taking-thm
 use Rattle.chain.proofs.max6954_access.Key as key
 use Rattle.chain.proofs.max6954_access as access
 use Rattle.chain.proofs.max6954_access.Statement as stated
 use Rattle.chain.proofs.max6954_access.Code as code
 
+abbrev R : RattleType
+R = device .row
+
 abbrev stayed : Stays (access.ended .signature .params) (access.ended .kept)
-stayed = (gave-slice (0 ∷ []) tt (plain (λ _. device .row)), (stay-dropped (plain (λ _. size .row)) yes, (stay-dropped (shrSliceOf (1 ∷ []) tt (plain (λ _. byte .row))) yes, (gave-slice (2 ∷ []) tt (plain (λ _. byte .row)), tt))))
+stayed = (gave-slice (0 ∷ []) tt (plain (λ _. R)), (stay-dropped (plain (λ _. size .row)) yes, (stay-dropped (shrSliceOf (1 ∷ []) tt (plain (λ _. byte .row))) yes, (gave-slice (2 ∷ []) tt (plain (λ _. byte .row)), tt))))
+
+-- sixteen words have room
+room16 : Room S 16
+room16 = (lit< tt, lit< tt)
 
 module _ {M : Type 1} (𝓤 : URA M) (H : Heap 𝓤) (A : Atoms 𝓤) (W : Given 𝓤 H A) (mem : Memory → SProp 𝓤) (run : Routine → Fun 𝓤) (κ κ₁ κ₂ : Lft) (q q₁ q₂ : Share) (b o : ℕ) (γ : GName) (ys : List Device) (clocks : ℕ) (sent answer : RefT (List ℕ)) where
+  abbrev n : ℕ
+  n = length ys
+
+  abbrev ref : GName → List Device → RefT (List Device)
+  ref δ l = record { ptr = (b, o); name = δ; now = l }
+
+  abbrev words : ℕ → GName → List ℕ → RefT (List ℕ)
+  words l δ ws = record { ptr = (l, 0); name = δ; now = ws }
+
   abbrev y : Bound 𝓤 H A access.signature
-  y = ((κ, (κ₁, (κ₂, tt))), (q, (q₁, (q₂, tt))), tt, (ref γ b o ys, (clocks, (sent, (answer, tt)))), (slice-vals (ref γ b o ys), (size .val clocks ∷ [], (slice-vals sent, (slice-vals answer, tt)))))
+  y = ((κ, (κ₁, (κ₂, tt))), (q, (q₁, (q₂, tt))), tt, (ref γ ys, (clocks, (sent, (answer, tt)))), (slice-vals (ref γ ys), (size .val clocks ∷ [], (slice-vals sent, (slice-vals answer, tt)))))
 
-  -- what `Survey::access` is called at
-  abbrev z : Bound 𝓤 H A work.signature
-  z = ((κ₁, (κ₂, tt)), (q₁, (q₂, tt)), tt, (of ys 0, y .3 .1), (survey .val (of ys 0) ∷ [], y .4 .1))
+  abbrev early : ℕ
+  early = accessByArguments n clocks (length (sent .now)) (length (answer .now))
 
-  abbrev c : Change
-  c = accessed (of ys 0) clocks (sent .now) (answer .now)
+  abbrev zeros : List ℕ
+  zeros = replicate 16 0
 
-  abbrev zs : List ℕ
-  zs = accessRoom (of ys 0) clocks (sent .now) (answer .now)
+  abbrev m : ℕ
+  m = toPassIn early n (length zeros)
 
-  walk : (𝓣 : Tables 𝓤 H) → Triple 𝓤 (𝓣 .C surveyed-def.name) (Surveyed 𝓤 H A mem run) → Triple 𝓤 (𝓣 .C work-def.name) (tripleOf 𝓤 H A work.signature (work.spec 𝓤 H A mem run)) → Triple 𝓤 (𝓣 .C changed-def.name) (Changed 𝓤 H A mem run)
-      → Room (device .row) (length ys) → Is (size .row) clocks (size .val clocks ∷ []) → Room (byte .row) (length (sent .now)) → Room (byte .row) (length (answer .now)) → Walk 𝓤 H A access.ended stayed (access.clauses 𝓤 H A mem run) 𝓣 code.function y tt
-  walk 𝓣 known-surveyed known-work known-changed room is₁ room₂ room₃ =
-      qed W ((‵ (flft κ q) ⊛ ‵ (flft κ₁ q₁) ⊛ ‵ (flft κ₂ q₂) ⊛ ‵ ftrue) ∷ ‵ (owns (MutSlice (named 0) κ (device .row) ∷ size .row ∷ ShrSlice (named 1) κ₁ (byte .row) ∷ MutSlice (named 2) κ₂ (byte .row) ∷ []) (y .3) (y .4)) ∷ []) ∵ enter ! (𝓣 .C) (𝓣 .Λ) code.function _ _ $
-      alloc1 ! (λ l₀. alloc1 ! (λ l₁. alloc1 ! (λ l₂. alloc1 ! (λ l₃. alloc1 ! (λ l₄. alloc1 ! (λ l₅. alloc1 ! (λ l₆. alloc1 ! (λ l₇. alloc1 ! (λ l₈. alloc1 ! (λ l₉. alloc1 ! (λ m₀. alloc1 ! (λ m₁. alloc1 ! (λ m₂. alloc0 ! $ params1 ! $
-      pass1 ! (init ! 22 refl (tt, (tt, (record { fits = room .0 }, tt)))) $ pass1 ! (init ! 20 refl (size .typed 𝓤 H A W clocks is₁)) $ pass1 ! (init ! 18 refl (tt, (tt, (record { fits = room₂ .0 }, tt)))) $ pass1 ! (init ! 16 refl (tt, (tt, (record { fits = room₃ .0 }, tt)))) $ pass0 ! $
-      move ! (27 ∷ []) $ fsplit ! $ move ! (28 ∷ []) $ split ! $ move ! (2 ∷ 0 ∷ 3 ∷ []) $
-      -- [the slice; its token; what the other parameters own; the other tokens; _12; …; _11; …; ..; _0; …]
-      assigns ! (addr ! (from ! (fld ! refl (hop ! (look-in ! 26 (sub ! 0 refl (whole !))) (stop !))))) (from ! (stop !)) (init ! 14 refl (tt, tt)) $
-      assigns ! (agg ! (and-then ! (load ! (from ! (stop !)) (look ! 14 refl)) (and-then ! (load ! (from ! (fld ! refl (stop !))) (look-in ! 26 (sub ! 1 refl (whole !)))) (no-more !)))) (from ! (stop !)) (init ! 12 refl (tt, (tt, (record { fits = room .0 }, tt)))) $
-      surveys-mut ! (fmOf 𝓤 H (W .laws) 𝓣) mem run known-surveyed κ q b o γ ys room 0 (refl, lit< tt) (λ ν δ. and-then ! (load ! (from ! (stop !)) (look ! 12 refl)) (and-then ! (lit ! tt) (no-more !))) (λ is-s wt-s. land ! (from ! (stop !)) (init ! 18 refl wt-s) $
-      assigns ! (addr ! (from ! (fld ! refl (hop ! (look-in ! 20 (sub ! 0 refl (whole !))) (stop !))))) (from ! (stop !)) (init ! 10 refl (tt, tt)) $
-      assigns ! (agg ! (and-then ! (load ! (from ! (stop !)) (look ! 10 refl)) (and-then ! (load ! (from ! (fld ! refl (stop !))) (look-in ! 20 (sub ! 1 refl (whole !)))) (no-more !)))) (from ! (stop !)) (init ! 8 refl (tt, (tt, (record { fits = room₃ .0 }, tt)))) $
-      move ! (2 ∷ []) $ owned ! (survey .row) (Is (survey .row)) (survey .makes 𝓤 H A W) (of ys 0) _ is-s $ fjoin ! $ move ! (3 ∷ 0 ∷ []) $ use2 W (raw (onEntry 𝓤 H A work.signature (z .0) (z .1) (z .3) (z .4))) (id⊢ 𝓤 _) $
-      -- [what `Survey::access` asks; the slice; its token; _12; …; ..; _0; …]
-      calls-fn ! (fmOf 𝓤 H (W .laws) 𝓣) work.ended (work.clauses 𝓤 H A mem run) known-work z tt (id⊢ 𝓤 _) (λ r ws. (r ≡ c) × (ws .1 .1 .1 .0 ≡ zs)) (λ r ws. refl)
-      (and-then ! (load ! (from ! (stop !)) (look ! 17 refl)) (and-then ! (load ! (from ! (stop !)) (look ! 23 refl)) (and-then ! (load ! (from ! (stop !)) (look ! 21 refl)) (and-then ! (load ! (from ! (stop !)) (look ! 7 refl)) (no-more !))))) (λ w r ws e.
-      lands-known ! change c w r (e .0) (λ is-c wt-c. move ! (1 ∷ []) $ fsplit ! $ drop ! $ fsplit ! $ drop ! $ fsplit ! $ drop ! $ fsplit ! $ fsplit ! $ move ! (1 ∷ []) $ feqL ! (λ long₃.
-      rewrite ! 0 (λ (l : List ℕ). ‵ (finally (byte .row) (answer .name) l)) (e .1) refl $ land ! (from ! (stop !)) (init ! 17 refl wt-c) $
-      -- [answer's last list; true; the other tokens; the slice; its token; _12; …; ..; _0; …]
-      assigns ! (addr ! (from ! (fld ! refl (hop ! (look-in ! 27 (sub ! 0 refl (whole !))) (stop !))))) (from ! (stop !)) (init ! 7 refl (tt, tt)) $
-      assigns ! (agg ! (and-then ! (load ! (from ! (stop !)) (look ! 7 refl)) (and-then ! (load ! (from ! (fld ! refl (stop !))) (look-in ! 27 (sub ! 1 refl (whole !)))) (no-more !)))) (from ! (stop !)) (init ! 5 refl (tt, (tt, (record { fits = room .0 }, tt)))) $
-      move ! (3 ∷ 4 ∷ []) $ changes ! (fmOf 𝓤 H (W .laws) 𝓣) mem run known-changed κ q b o γ ys c is-c (and-then ! (load ! (from ! (stop !)) (look ! 4 refl)) (and-then ! (load ! (from ! (stop !)) (look ! 16 refl)) (no-more !))) (λ long. land ! (from ! (stop !)) (init ! 29 refl (tt, record { fits = number-fits c is-c })) $
-      -- [the slice's token; its last list; answer's last list; true; the other tokens; _12; …; ..; _0; …]
-      returns ! (look ! 29 refl) $ leave ! 29 29 refl refl $ leave ! 27 27 refl refl $ leave ! 25 25 refl refl $ leave ! 23 23 refl refl $ leave ! 21 21 refl refl $ leave ! 19 19 refl refl $ leave ! 17 17 refl refl $
-      leave ! 15 15 refl refl $ leave ! 13 13 refl refl $ leave ! 11 11 refl refl $ leave ! 9 9 refl refl $ leave ! 7 7 refl refl $ leave ! 5 5 refl refl $ free0 ! $
-      suffices ! _ (ends-at 𝓤 H A access.ended stayed (access.clauses 𝓤 H A mem run) W (y, tt) (vint w8 (c .number)) (c .number) (applied (length ys) ys c, (tt, (tt, (zs, tt)))) (long, (tt, (tt, (ap length (sym (e .1)) ∙ long₃, tt))))) $
-      says ! (access-number ys clocks (sent .now) (answer .now), access-after ys clocks (sent .now) (answer .now), access-reply ys clocks (sent .now) (answer .now)) $
-      split ! $ move ! (0 ∷ 5 ∷ []) $ join ! $ frame ! $ move ! (2 ∷ 3 ∷ []) $ fjoin ! $ move ! (1 ∷ 0 ∷ []) $ fjoin ! $ nothing ! $ fjoin ! $ move ! (1 ∷ 0 ∷ []) $ fjoin ! $ frame ! $
-      owned ! (byte .row) (Is (byte .row)) (byte .makes 𝓤 H A W) (c .number) _ (refl, number-fits c is-c) $ done !))))))))))))))))))
+  -- the words that were looked at, the number, and the words after the access
+  abbrev old : List ℕ
+  old = wordsTo ys zeros m
+
+  abbrev nr : ℕ
+  nr = found early (allSound (take m ys))
+
+  abbrev next : List ℕ
+  next = wordsAfter old n clocks (sent .now) (answer .now)
+
+  abbrev given : List ℕ
+  given = roomAfter old n clocks (sent .now) (answer .now)
+
+  old-long : length old ≡ 16
+  old-long = length-words ys zeros m (pass-in-le early n (length zeros))
+
+  -- how the chain, the answer and the words can be left
+  record Left : Type 0 where
+    pub chain : List Device
+    pub bytes : List ℕ
+    pub row-of : List ℕ
+    pub is : outcome (accessCall clocks (sent .now) (answer .now)) ys ≡ record { number = nr; records = chain; back = bytes }
+    pub chain-long : length chain ≡ n
+    pub bytes-long : length bytes ≡ length (answer .now)
+    pub words-long : length row-of ≡ 16
+
+  abbrev Toks : Item 𝓤
+  Toks = ‵ (flft κ₁ q₁) ⊛ ‵ (flft κ₂ q₂) ⊛ ‵ ftrue
+
+  -- what each function that is lent the words is called at
+  abbrev at-looked : ℕ → ℕ → GName → ℕ → GName → Bound 𝓤 H A looked.signature
+  at-looked l ν δ ν₁ δ₁ = ((ν ∷ [], (ν₁ ∷ [], tt)), (fullShare, (fullShare, tt)), tt, (ref δ ys, (early, (words l δ₁ zeros, tt))), (slice-vals (ref δ ys), (byte .val early ∷ [], (slice-vals (words l δ₁ zeros), tt))))
+
+  abbrev at-shift : ℕ → ℕ → GName → Bound 𝓤 H A shift.signature
+  at-shift l ν δ = ((ν ∷ [], (κ₁, (κ₂, tt))), (fullShare, (q₁, (q₂, tt))), tt, (words l δ old, (n, (clocks, (sent, (answer, tt))))), (slice-vals (words l δ old), (size .val n ∷ [], (size .val clocks ∷ [], (slice-vals sent, (slice-vals answer, tt))))))
+
+  abbrev at-taking : ℕ → ℕ → GName → Bound 𝓤 H A taking.signature
+  at-taking l ν δ = ((κ, (ν ∷ [], tt)), (q, (fullShare, tt)), tt, (ref γ ys, (words l δ next, tt)), (slice-vals (ref γ ys), (slice-vals (words l δ next), tt)))
+
+  -- a unit result's machine value
+  unit-typed : (w : Val) → w ∷ [] ≡ vunit ∷ [] → Holds (hasTy tyUnit w) × WT w
+  unit-typed w e = subst (λ (v : Val). Holds (hasTy tyUnit v) × WT v) (sym (ap only e)) (tt, tt)
+
+  walk : (𝓣 : Tables 𝓤 H) → Triple 𝓤 (𝓣 .C early-def.name) (tripleOf 𝓤 H A early′.signature (early′.spec 𝓤 H A mem run)) → Triple 𝓤 (𝓣 .C looked-def.name) (tripleOf 𝓤 H A looked.signature (looked.spec 𝓤 H A mem run))
+      → Triple 𝓤 (𝓣 .C shift-def.name) (tripleOf 𝓤 H A shift.signature (shift.spec 𝓤 H A mem run)) → Triple 𝓤 (𝓣 .C taking-def.name) (tripleOf 𝓤 H A taking.signature (taking.spec 𝓤 H A mem run))
+      → Room R n → Is (size .row) clocks (size .val clocks ∷ []) → Room (byte .row) (length (sent .now)) → Room (byte .row) (length (answer .now)) → Walk 𝓤 H A access.ended stayed (access.clauses 𝓤 H A mem run) 𝓣 code.function y tt
+  walk 𝓣 known-early known-looked known-shift known-taking room is₁ room₂ room₃ =
+      qed W ((‵ (flft κ q) ⊛ ‵ (flft κ₁ q₁) ⊛ ‵ (flft κ₂ q₂) ⊛ ‵ ftrue) ∷ ‵ (owns (MutSlice (named 0) κ R ∷ size .row ∷ ShrSlice (named 1) κ₁ (byte .row) ∷ MutSlice (named 2) κ₂ (byte .row) ∷ []) (y .3) (y .4)) ∷ []) ∵ enter ! (𝓣 .C) (𝓣 .Λ) code.function _ _ $
+      alloc1 ! (λ l0. alloc1 ! (λ l1. alloc1 ! (λ l2. alloc1 ! (λ l3. alloc1 ! (λ l4. alloc1 ! (λ l5. alloc1 ! (λ l6. alloc1 ! (λ l7. alloc1 ! (λ l8. alloc1 ! (λ l9. alloc1 ! (λ l10. alloc1 ! (λ l11. alloc1 ! (λ l12. alloc1 ! (λ l13. alloc1 ! (λ l14. alloc1 ! (λ l15. alloc1 ! (λ l16. alloc1 ! (λ l17. alloc1 ! (λ l18. alloc1 ! (λ l19. alloc1 ! (λ l20. alloc1 ! (λ l21. alloc1 ! (λ l22. alloc1 ! (λ l23. alloc1 ! (λ l24. alloc0 ! $ params1 ! $
+      pass1 ! (init ! 46 refl (tt, (tt, (record { fits = room .0 }, tt)))) $ pass1 ! (init ! 44 refl (size .typed 𝓤 H A W clocks is₁)) $ pass1 ! (init ! 42 refl (tt, (tt, (record { fits = room₂ .0 }, tt)))) $ pass1 ! (init ! 40 refl (tt, (tt, (record { fits = room₃ .0 }, tt)))) $ pass0 ! $
+      -- [_24; …; _23; …; ..; _0; …; the tokens; what the parameters own]
+      assigns ! (of-opd ! (load ! (from ! (fld ! refl (stop !))) (look-in ! 46 (sub ! 1 refl (whole !))))) (from ! (stop !)) (init ! 38 refl (tt, record { fits = room .0 })) $
+      assigns ! (of-opd ! (load ! (from ! (fld ! refl (stop !))) (look-in ! 42 (sub ! 1 refl (whole !))))) (from ! (stop !)) (init ! 30 refl (tt, record { fits = room₂ .0 })) $
+      assigns ! (of-opd ! (load ! (from ! (fld ! refl (stop !))) (look-in ! 40 (sub ! 1 refl (whole !))))) (from ! (stop !)) (init ! 28 refl (tt, record { fits = room₃ .0 })) $
+      calls-value ! (fmOf 𝓤 H (W .laws) 𝓣) (size ∷ size ∷ size ∷ size ∷ []) byte (λ _. emp 𝓤) (λ a. accessByArguments (a .0) (a .1 .0) (a .1 .1 .0) (a .1 .1 .1 .0)) known-early (n, (clocks, (length (sent .now), (length (answer .now), tt)))) ((refl, room .0), (is₁, ((refl, room₂ .0), ((refl, room₃ .0), tt)))) (id⊢ 𝓤 _)
+      (and-then ! (load ! (from ! (stop !)) (look ! 39 refl)) (and-then ! (load ! (from ! (stop !)) (look ! 45 refl)) (and-then ! (load ! (from ! (stop !)) (look ! 31 refl)) (and-then ! (load ! (from ! (stop !)) (look ! 29 refl)) (no-more !))))) (λ is-early wt-early. land ! (from ! (stop !)) (init ! 36 refl wt-early) $
+      owned ! S (Is S) (half .makes 𝓤 H A W) 0 (half .val 0 ∷ []) (refl, lit< tt) $ use1 W (‵ (Array S 16 .own zeros (_ ∷ []))) (array-repeat 𝓤 H A W S (uint-copy 𝓤 H A W w16) 16 0 (half .val 0)) $
+      peeks ! (Array S 16) (Is (Array S 16)) (shows 𝓤 H A (Array S 16)) zeros _ (λ is-zeros. assigns ! (rep ! 16 (lit ! tt)) (from ! (stop !)) (init ! 35 refl (array-lawful 𝓤 H A W S (uint-lawful 𝓤 H A W w16) 16 .typed zeros _ is-zeros .0)) $
+      move ! (35 ∷ 0 ∷ []) $ array-opens ! 16 zeros _ l7 0 (λ _.
+      move ! (51 ∷ 50 ∷ []) $ fsplit ! $ move ! (1 ∷ []) $ fsplit ! $ drop ! $ fsplit ! $ move ! (1 ∷ []) $ fsplit ! $ move ! (1 ∷ []) $ drop ! $ move ! (3 ∷ []) $ split ! $ move ! (4 ∷ 0 ∷ 5 ∷ 1 ∷ 2 ∷ 3 ∷ []) $
+      -- [the chain; its token; the words; the other tokens; answer; sent; _24, from 6; …; _8 at 38; …; _7's …; _6 at 41; …; ..; _0 at 53]
+      assigns ! (addr ! (from ! (fld ! refl (hop ! (look-in ! 51 (sub ! 0 refl (whole !))) (stop !))))) (from ! (stop !)) (init ! 32 refl (tt, tt)) $ assigns ! (agg ! (and-then ! (load ! (from ! (stop !)) (look ! 32 refl)) (and-then ! (load ! (from ! (fld ! refl (stop !))) (look-in ! 51 (sub ! 1 refl (whole !)))) (no-more !)))) (from ! (stop !)) (init ! 30 refl (tt, (tt, (record { fits = room .0 }, tt)))) $
+      assigns ! (addr ! (from ! (stop !))) (from ! (stop !)) (init ! 28 refl (tt, tt)) $ assigns ! (agg ! (and-then ! (load ! (from ! (stop !)) (look ! 28 refl)) (and-then ! (lit ! tt) (no-more !)))) (from ! (stop !)) (init ! 26 refl (tt, (tt, (record { fits = lit< tt }, tt)))) $
+      lft-new ! tt (λ ν. move ! (1 ∷ 2 ∷ []) $ use2 W (later (some (λ (δ : GName). ‵ (ShrSlice (named 0) (ν ∷ []) R .own (ref δ ys) (slice-vals (ref δ ys))) ⊛ ‵ (LentShared R κ (ν ∷ []) q γ b o ys)))) (lends-shared R κ (ν ∷ []) q γ b o 𝓤 H A W (named 0) (named 0) ys) $ await ! tt $ pick ! (λ δ. split ! $
+      lft-new ! tt (λ ν₁. move ! (4 ∷ []) $ use1 W (‵ (cells (memOf S) zeros l7 0)) (whole-in 𝓤 H A W S zeros l7 0) $
+      use1 W (later (some (λ (δ₁ : GName). ‵ (MutSlice (named 1) (ν₁ ∷ []) S .own (words l7 δ₁ zeros) (slice-vals (words l7 δ₁ zeros))) ⊛ ‵ (flent (ν₁ ∷ []) (Held S 16 l7 0 δ₁))))) (lends-slice 𝓤 H A W S (named 1) (ν₁ ∷ []) zeros l7 0 room16) $ await ! tt $ pick ! (λ δ₁. split ! $
+      -- [the words lent; what their lender keeps; ν₁; the chain lent; what its lender keeps; ν; the other tokens; answer; sent; ..]
+      nothing ! $ move ! (1 ∷ 0 ∷ []) $ fjoin ! $ owned ! (byte .row) (Is (byte .row)) (byte .makes 𝓤 H A W) early (byte .val early ∷ []) is-early $ fjoin ! $ move ! (3 ∷ 0 ∷ []) $ fjoin ! $
+      nothing ! $ move ! (3 ∷ 0 ∷ []) $ join ! $ move ! (4 ∷ 0 ∷ []) $ join ! $ use2 W (raw (onEntry 𝓤 H A looked.signature (at-looked l7 ν δ ν₁ δ₁ .0) (at-looked l7 ν δ ν₁ δ₁ .1) (at-looked l7 ν δ ν₁ δ₁ .3) (at-looked l7 ν δ ν₁ δ₁ .4))) (id⊢ 𝓤 _) $
+      calls-fn ! (fmOf 𝓤 H (W .laws) 𝓣) looked.ended (looked.clauses 𝓤 H A mem run) known-looked (at-looked l7 ν δ ν₁ δ₁) tt (id⊢ 𝓤 _) (λ r ws. (r ≡ nr) × (ws .1 .1 .0 ≡ old)) (λ r ws. refl)
+      (and-then ! (load ! (from ! (stop !)) (look ! 30 refl)) (and-then ! (load ! (from ! (stop !)) (look ! 41 refl)) (and-then ! (load ! (from ! (stop !)) (look ! 26 refl)) (no-more !)))) (λ w r ws e. lands-known ! byte nr w r (e .0) (λ is-nr wt-nr.
+      move ! (1 ∷ []) $ fsplit ! $ drop ! $ fsplit ! $ drop ! $ fsplit ! $ fsplit ! $ move ! (1 ∷ []) $ feqL ! (λ _. rewrite ! 0 (λ (l : List ℕ). ‵ (finally S δ₁ l)) (e .1) refl $ move ! (1 ∷ []) $ drop ! $
+      move ! (1 ∷ []) $ use1 W (‵ (flft (ν ∷ []) fullShare) ⊛ ‵ (flft (ν₁ ∷ []) fullShare) ⊛ ‵ ftrue) (id⊢ 𝓤 _) $ split ! $ move ! (1 ∷ []) $ split ! $ lft-end ! tt $ move ! (0 ∷ 4 ∷ 3 ∷ []) $
+      use3 W (later (‵ (Arr (memOf S) 16 .lies old l7 0))) (slice-back 𝓤 H A W S (ν₁ ∷ []) δ₁ old 16 l7 0) $ await ! tt $ fsplit ! $ drop ! $ use1 W (‵ (row S fullShare old l7 0)) (whole-out 𝓤 H A W S old l7 0) $
+      move ! (2 ∷ []) $ lft-end ! tt $ move ! (0 ∷ 3 ∷ []) $ use2 W (later (‵ (MutSlice (named 0) κ R .own (ref γ ys) (slice-vals (ref γ ys))) ⊛ ‵ (flft κ q))) (shared-back R κ (ν ∷ []) q γ b o 𝓤 H A W (named 0) (named 0) ys room) $ await ! tt $ split ! $ move ! (3 ∷ []) $ drop ! $
+      -- [the chain; its token; the words; the other tokens; answer; sent; _24, from 6; ..]
+      land ! (from ! (stop !)) (init ! 38 refl wt-nr) $ assigns ! (bin ! (load ! (from ! (stop !)) (look ! 38 refl)) (lit ! tt) tt) (from ! (stop !)) (init ! 24 refl (tt, tt)) $
+      forks-to ! (λ (x : Left) (l : List (Item 𝓤)). put 𝓤 H A 53 (‵ (fat fullShare (byte .ty) l0 0 (byte .val nr))) (put 𝓤 H A 5 (‵ ftrue) (put 𝓤 H A 4 (‵ (finally (byte .row) (answer .name) (x .bytes))) (put 𝓤 H A 2 (‵ (row S fullShare (x .row-of) l7 0)) (put 𝓤 H A 0 (‵ (finally R γ (x .chain))) l))))) (load ! (from ! (stop !)) (look ! 24 refl)) (λ Q end no.
+      let refused = access-refused ys clocks (sent .now) (answer .now) (not-zero nr no) in
+      assigns ! (of-opd ! (load ! (from ! (stop !)) (look ! 38 refl))) (from ! (stop !)) (init ! 53 refl wt-nr) $ use1 W (‵ (finally R γ ys)) (gives-up 𝓤 H A W R (named 0) κ (ref γ ys) (slice-vals (ref γ ys))) $ move ! (4 ∷ []) $ use1 W (‵ (finally (byte .row) (answer .name) (answer .now))) (gives-up 𝓤 H A W (byte .row) (named 2) κ₂ answer (slice-vals answer)) $
+      move ! (5 ∷ []) $ drop ! $ nothing ! $ move ! (2 ∷ 3 ∷ 4 ∷ 5 ∷ 1 ∷ 0 ∷ []) $ end (record { chain = ys; bytes = answer .now; row-of = old; is = refused; chain-long = refl; bytes-long = refl; words-long = old-long }))
+      (λ end yes′.
+      let z : nr ≡ 0 = is-zero nr yes′ in
+      let served = access-served ys clocks (sent .now) (answer .now) z in
+      assigns ! (addr ! (from ! (stop !))) (from ! (stop !)) (init ! 20 refl (tt, tt)) $ assigns ! (agg ! (and-then ! (load ! (from ! (stop !)) (look ! 20 refl)) (and-then ! (lit ! tt) (no-more !)))) (from ! (stop !)) (init ! 18 refl (tt, (tt, (record { fits = lit< tt }, tt)))) $ rewrite ! 18 (λ (k : ℕ). ‵ (fat fullShare (sliceTy (tyRef erased mut (pointee (S .written)))) l18 0 (sliceVal (l7, 0) k))) (sym old-long) refl $
+      assigns ! (addr ! (from ! (fld ! refl (hop ! (look-in ! 45 (sub ! 0 refl (whole !))) (stop !))))) (from ! (stop !)) (init ! 16 refl (tt, tt)) $ assigns ! (agg ! (and-then ! (load ! (from ! (stop !)) (look ! 16 refl)) (and-then ! (load ! (from ! (fld ! refl (stop !))) (look-in ! 45 (sub ! 1 refl (whole !)))) (no-more !)))) (from ! (stop !)) (init ! 14 refl (tt, (tt, (record { fits = room₃ .0 }, tt)))) $
+      lft-new ! tt (λ ν₂. move ! (3 ∷ []) $ use1 W (‵ (cells (memOf S) old l7 0)) (whole-in 𝓤 H A W S old l7 0) $
+      use1 W (later (some (λ (δ₂ : GName). ‵ (MutSlice (named 0) (ν₂ ∷ []) S .own (words l7 δ₂ old) (slice-vals (words l7 δ₂ old))) ⊛ ‵ (flent (ν₂ ∷ []) (Held S (length old) l7 0 δ₂))))) (lends-slice 𝓤 H A W S (named 0) (ν₂ ∷ []) old l7 0 (subst (Room S) (sym old-long) room16)) $ await ! tt $ pick ! (λ δ₂. split ! $
+      -- [the words lent; what their lender keeps; ν₂; the chain; its token; the other tokens; answer; sent; ..]
+      nothing ! $ move ! (7 ∷ 0 ∷ []) $ fjoin ! $ move ! (7 ∷ 0 ∷ []) $ fjoin ! $ owned ! (size .row) (Is (size .row)) (size .makes 𝓤 H A W) clocks (size .val clocks ∷ []) is₁ $ fjoin ! $ owned ! (size .row) (Is (size .row)) (size .makes 𝓤 H A W) n (size .val n ∷ []) (refl, room .0) $ fjoin ! $ move ! (1 ∷ 0 ∷ []) $ fjoin ! $
+      move ! (2 ∷ 5 ∷ []) $ join ! $ use2 W (raw (onEntry 𝓤 H A shift.signature (at-shift l7 ν₂ δ₂ .0) (at-shift l7 ν₂ δ₂ .1) (at-shift l7 ν₂ δ₂ .3) (at-shift l7 ν₂ δ₂ .4))) (id⊢ 𝓤 _) $
+      calls-fn ! (fmOf 𝓤 H (W .laws) 𝓣) shift.ended (shift.clauses 𝓤 H A mem run) known-shift (at-shift l7 ν₂ δ₂) tt (id⊢ 𝓤 _) (λ r ws. (ws .0 ≡ next) × (ws .1 .1 .1 .1 .0 ≡ given)) (λ r ws. refl)
+      (and-then ! (load ! (from ! (stop !)) (look ! 16 refl)) (and-then ! (load ! (from ! (stop !)) (look ! 41 refl)) (and-then ! (load ! (from ! (stop !)) (look ! 47 refl)) (and-then ! (load ! (from ! (stop !)) (look ! 45 refl)) (and-then ! (load ! (from ! (stop !)) (look ! 12 refl)) (no-more !)))))) (λ w₂ r₂ ws₂ e₂. feqL ! (λ unit₂.
+      move ! (1 ∷ []) $ fsplit ! $ fsplit ! $ move ! (1 ∷ []) $ feqL ! (λ long₂. rewrite ! 0 (λ (l : List ℕ). ‵ (finally S δ₂ l)) (e₂ .0) refl $
+      move ! (1 ∷ []) $ fsplit ! $ drop ! $ fsplit ! $ drop ! $ fsplit ! $ drop ! $ fsplit ! $ fsplit ! $ move ! (1 ∷ []) $ feqL ! (λ long₃. rewrite ! 0 (λ (l : List ℕ). ‵ (finally (byte .row) (answer .name) l)) (e₂ .1) refl $ move ! (1 ∷ []) $ drop ! $
+      let next-long : length next ≡ 16 = ap length (sym (e₂ .0)) ∙ long₂ ∙ old-long in
+      move ! (2 ∷ []) $ use1 W (‵ (flft (ν₂ ∷ []) fullShare) ⊛ Toks) (id⊢ 𝓤 _) $ split ! $ lft-end ! tt $ move ! (0 ∷ 4 ∷ 3 ∷ []) $
+      use3 W (later (‵ (Arr (memOf S) (length old) .lies next l7 0))) (slice-back 𝓤 H A W S (ν₂ ∷ []) δ₂ next (length old) l7 0) $ await ! tt $ fsplit ! $ drop ! $ use1 W (‵ (row S fullShare next l7 0)) (whole-out 𝓤 H A W S next l7 0) $
+      land ! (from ! (stop !)) (init ! 21 refl (unit-typed w₂ unit₂)) $ move ! (3 ∷ 4 ∷ 0 ∷ 1 ∷ 2 ∷ []) $
+      -- [the chain; its token; the words; the other tokens; answer's last list; _24, from 5; …; _4 at 44; …; _1 at 50; …; _0 at 52]
+      assigns ! (addr ! (from ! (fld ! refl (hop ! (look-in ! 50 (sub ! 0 refl (whole !))) (stop !))))) (from ! (stop !)) (init ! 11 refl (tt, tt)) $ assigns ! (agg ! (and-then ! (load ! (from ! (stop !)) (look ! 11 refl)) (and-then ! (load ! (from ! (fld ! refl (stop !))) (look-in ! 50 (sub ! 1 refl (whole !)))) (no-more !)))) (from ! (stop !)) (init ! 9 refl (tt, (tt, (record { fits = room .0 }, tt)))) $
+      assigns ! (addr ! (from ! (stop !))) (from ! (stop !)) (init ! 7 refl (tt, tt)) $ assigns ! (agg ! (and-then ! (load ! (from ! (stop !)) (look ! 7 refl)) (and-then ! (lit ! tt) (no-more !)))) (from ! (stop !)) (init ! 5 refl (tt, (tt, (record { fits = lit< tt }, tt)))) $ rewrite ! 5 (λ (k : ℕ). ‵ (fat fullShare (sliceTy (tyRef erased imm (pointee (S .written)))) l24 0 (sliceVal (l7, 0) k))) (sym next-long) refl $
+      lft-new ! tt (λ ν₃. move ! (3 ∷ []) $ feqI ! ℕ (length next) (length next) refl $ fjoin ! $
+      use1 W (later (some (λ (δ₃ : GName). ‵ (ShrSlice (named 1) (ν₃ ∷ []) S .own (words l7 δ₃ next) (slice-vals (words l7 δ₃ next))) ⊛ ‵ (flent (ν₃ ∷ []) (arr-parts (shares S) (length next) .part fullShare next l7 0))))) (lends-shr-slice 𝓤 H A W S (named 1) (ν₃ ∷ []) fullShare next l7 0 (subst (Room S) (sym next-long) room16)) $ await ! tt $ pick ! (λ δ₃. split ! $
+      nothing ! $ move ! (1 ∷ 0 ∷ []) $ fjoin ! $ move ! (3 ∷ 0 ∷ []) $ fjoin ! $ nothing ! $ move ! (3 ∷ 0 ∷ []) $ join ! $ move ! (3 ∷ 0 ∷ []) $ join ! $ use2 W (raw (onEntry 𝓤 H A taking.signature (at-taking l7 ν₃ δ₃ .0) (at-taking l7 ν₃ δ₃ .1) (at-taking l7 ν₃ δ₃ .3) (at-taking l7 ν₃ δ₃ .4))) (id⊢ 𝓤 _) $
+      calls-fn ! (fmOf 𝓤 H (W .laws) 𝓣) taking.ended (taking.clauses 𝓤 H A mem run) known-taking (at-taking l7 ν₃ δ₃) tt (id⊢ 𝓤 _) (λ r ws. ws .0 ≡ takenTo ys next (inRoom n (length next))) (λ r ws. refl)
+      (and-then ! (load ! (from ! (stop !)) (look ! 8 refl)) (and-then ! (load ! (from ! (stop !)) (look ! 4 refl)) (no-more !))) (λ w₃ r₃ ws₃ e₃. feqL ! (λ unit₃.
+      move ! (1 ∷ []) $ fsplit ! $ fsplit ! $ move ! (1 ∷ []) $ feqL ! (λ long₄. rewrite ! 0 (λ (l : List Device). ‵ (finally R γ l)) e₃ refl $ move ! (1 ∷ []) $ drop ! $
+      move ! (1 ∷ []) $ use1 W (‵ (flft κ q) ⊛ ‵ (flft (ν₃ ∷ []) fullShare) ⊛ ‵ ftrue) (id⊢ 𝓤 _) $ split ! $ move ! (1 ∷ []) $ split ! $ lft-end ! tt $ move ! (0 ∷ 4 ∷ []) $ lent-back ! tt $ fsplit ! $ drop ! $ move ! (3 ∷ 2 ∷ 0 ∷ 4 ∷ 5 ∷ 1 ∷ []) $
+      land ! (from ! (stop !)) (store ! 22 refl (unit-typed w₃ unit₃)) $ assigns ! (of-opd ! (load ! (from ! (stop !)) (look ! 38 refl))) (from ! (stop !)) (init ! 53 refl wt-nr) $
+      forget ! 6 refl $ forget ! 8 refl $ forget ! 10 refl $ forget ! 12 refl $ forget ! 14 refl $ forget ! 16 refl $ forget ! 18 refl $ forget ! 20 refl $ forget ! 22 refl $ end (record { chain = takenTo ys next (inRoom n (length next)); bytes = given; row-of = next; is = served; chain-long = ap length (sym e₃) ∙ long₄; bytes-long = ap length (sym (e₂ .1)) ∙ long₃; words-long = next-long })))))))))))))
+      (λ x. move ! (2 ∷ []) $ array-closes ! 16 (x .row-of) l7 0 (x .words-long) (λ v.
+      -- [_7; the chain's last list; its token; the other tokens; answer's last list; true; _24, from 6; ..]
+      returns ! (look ! 53 refl) $ leave ! 53 53 refl refl $ leave ! 51 51 refl refl $ leave ! 49 49 refl refl $ leave ! 47 47 refl refl $ leave ! 45 45 refl refl $ leave ! 43 43 refl refl $ leave ! 41 41 refl refl $ leave ! 0 39 refl refl $ leave ! 37 37 refl refl $ leave ! 35 35 refl refl $ leave ! 33 33 refl refl $ leave ! 31 31 refl refl $ leave ! 29 29 refl refl $ leave ! 27 27 refl refl $ leave ! 25 25 refl refl $ leave ! 23 23 refl refl $
+      leave-room ! 21 21 refl refl $ leave-room ! 19 19 refl refl $ leave-room ! 17 17 refl refl $ leave-room ! 15 15 refl refl $ leave-room ! 13 13 refl refl $ leave-room ! 11 11 refl refl $ leave-room ! 9 9 refl refl $ leave-room ! 7 7 refl refl $ leave-room ! 5 5 refl refl $ free0 ! $
+      suffices ! _ (ends-at 𝓤 H A access.ended stayed (access.clauses 𝓤 H A mem run) W (y, tt) (byte .val nr) nr (x .chain, (tt, (tt, (x .bytes, tt)))) (x .chain-long, (tt, (tt, (x .bytes-long, tt))))) $
+      says ! (x .is) $
+      move ! (1 ∷ 2 ∷ []) $ join ! $ frame ! $ move ! (1 ∷ 2 ∷ []) $ fjoin ! $ nothing ! $ fjoin ! $ nothing ! $ fjoin ! $ move ! (1 ∷ 0 ∷ []) $ fjoin ! $ frame ! $
+      owned ! (byte .row) (Is (byte .row)) (byte .makes 𝓤 H A W) nr _ is-nr $ done !)))))))))))))))))))))))))))))))))))))
 
 pub max6954-access-spec : {M : Type 1} → stated.statement M
 unfolding code.routine tablesOf
 max6954-access-spec 𝓤 H 𝓜 𝓖 𝓡 =
     let W = givenOf 𝓤 H 𝓜 𝓖 in
     proves 𝓤 H 𝓜 𝓖 𝓡 code.env access.ended stayed (access.clauses 𝓤 H (𝓖 .A) (𝓜 .mem) (𝓡 .run))
-    (goes-gave-slice 𝓤 H (𝓖 .A) W 3 0 tt (plain (λ _. device .row)), (goes-dropped 𝓤 H (𝓖 .A) W 3 (plain (λ _. size .row)) yes (λ κs x f. refl), (goes-dropped 𝓤 H (𝓖 .A) W 3 (shrSliceOf (1 ∷ []) tt (plain (λ _. byte .row))) yes (λ κs x f. refl), (goes-gave-slice 𝓤 H (𝓖 .A) W 3 2 tt (plain (λ _. byte .row)), tt))))
-    key.name code.function (code.unfolded 𝓤 H 𝓜 𝓡) (λ κs. (slice-vals, ((λ n. size .val n ∷ []), (slice-vals, (slice-vals, tt))))) (λ κs. (mut-slice-tells (named 0) (κs .0) (device .row), (size .tells, (shr-slice-tells (named 1) (κs .1 .0) (byte .row), (mut-slice-tells (named 2) (κs .1 .1 .0) (byte .row), tt)))))
+    (goes-gave-slice 𝓤 H (𝓖 .A) W 3 0 tt (plain (λ _. R)), (goes-dropped 𝓤 H (𝓖 .A) W 3 (plain (λ _. size .row)) yes (λ κs x f. refl), (goes-dropped 𝓤 H (𝓖 .A) W 3 (shrSliceOf (1 ∷ []) tt (plain (λ _. byte .row))) yes (λ κs x f. refl), (goes-gave-slice 𝓤 H (𝓖 .A) W 3 2 tt (plain (λ _. byte .row)), tt))))
+    key.name code.function (code.unfolded 𝓤 H 𝓜 𝓡) (λ κs. (slice-vals, ((λ n. size .val n ∷ []), (slice-vals, (slice-vals, tt))))) (λ κs. (mut-slice-tells (named 0) (κs .0) R, (size .tells, (shr-slice-tells (named 1) (κs .1 .0) (byte .row), (mut-slice-tells (named 2) (κs .1 .1 .0) (byte .row), tt)))))
     (λ κs qs bounds a g are. via 𝓤 _ (fst∗ 𝓤 _ (emp 𝓤)) (walk 𝓤 H (𝓖 .A) W (𝓜 .mem) (𝓡 .run) (κs .0) (κs .1 .0) (κs .1 .1 .0) (qs .0) (qs .1 .0) (qs .1 .1 .0) (a .0 .ptr .0) (a .0 .ptr .1) (a .0 .name) (a .0 .now) (a .1 .0) (a .1 .1 .0) (a .1 .1 .1 .0) (tablesOf 𝓤 H 𝓜 (tables 𝓤 H 𝓜 𝓡 code.env))
-    (cited 𝓤 H _ 𝓜 𝓡 code.env surveyed-def.name surveyed-def.routine code.calls-chain·surveyed (surveyed-thm.met 𝓤 H 𝓜 𝓖 𝓡)) (cited 𝓤 H _ 𝓜 𝓡 code.env work-def.name work-def.routine code.calls-survey·Survey·access (work-thm.met 𝓤 H 𝓜 𝓖 𝓡))
-    (cited 𝓤 H _ 𝓜 𝓡 code.env changed-def.name changed-def.routine code.calls-chain·changed (changed-thm.met 𝓤 H 𝓜 𝓖 𝓡)) (are .0 .0 .1) (are .1 .0) (are .1 .1 .0 .0 .1) (are .1 .1 .1 .0 .0 .1)))
+    (cited 𝓤 H _ 𝓜 𝓡 code.env early-def.name early-def.routine code.calls-pass·access-by-arguments (early-thm.met 𝓤 H 𝓜 𝓖 𝓡)) (cited 𝓤 H _ 𝓜 𝓡 code.env looked-def.name looked-def.routine code.calls-lent·shift-words (looked-thm.met 𝓤 H 𝓜 𝓖 𝓡))
+    (cited 𝓤 H _ 𝓜 𝓡 code.env shift-def.name shift-def.routine code.calls-wire·shift (shift-thm.met 𝓤 H 𝓜 𝓖 𝓡)) (cited 𝓤 H _ 𝓜 𝓡 code.env taking-def.name taking-def.routine code.calls-lent·take-words (taking-thm.met 𝓤 H 𝓜 𝓖 𝓡)) (are .0 .0 .1) (are .1 .0) (are .1 .1 .0 .0 .1) (are .1 .1 .1 .0 .0 .1)))

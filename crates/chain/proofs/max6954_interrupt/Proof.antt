@@ -1,17 +1,20 @@
--- `chain::max6954_interrupt` has the shape of `Asks.antt`, with `Survey::interrupt` for the work.
+-- `chain::max6954_interrupt` has the shape of `Asks.antt`.
 -- Assumes nothing.
 use mathlib.Core.Path.{_≡_}
-use mathlib.Core.List.{[]}
-use denote.Triple.Table.{cited}
+use mathlib.Core.List.{[], _∷_}
 use Rattle.calls.specs.Calls.{interrupt}
-use Rattle.calls.specs.Served.{only}
-use Rattle.survey.proofs.Survey.interrupt.Symbol as work-def
-use Rattle.survey.proofs.Survey.interrupt.Met as work-thm
-use Rattle.chain.proofs.Records.{interruptAnswer}
-use Rattle.chain.proofs.Params.{held}
+use Rattle.lent.proofs.Params.{held}
+use Rattle.chain.proofs.Answers.{interruptAnswer}
+use denote.Triple.Table.{cited}
+use Rattle.lent.proofs.call_number.Symbol as number-def
+use Rattle.lent.proofs.call_number.Met as number-thm
+use Rattle.pass.proofs.interrupt_number.Symbol as own-def
+use Rattle.pass.proofs.interrupt_number.Met as own-thm
+use Rattle.answers.proofs.interrupt_refused.Symbol as refused-def
+use Rattle.answers.proofs.interrupt_refused.Met as refused-thm
+use Rattle.answers.proofs.interrupt.Symbol as work-def
+use Rattle.answers.proofs.interrupt.Met as work-thm
 use Rattle.chain.proofs.Asks.{asks-spec}
-use Rattle.chain.proofs.surveyed.Symbol as surveyed-def
-use Rattle.chain.proofs.surveyed.Met as surveyed-thm
 use Rattle.chain.proofs.max6954_interrupt.Key as key
 use Rattle.chain.proofs.max6954_interrupt.Statement.{statement}
 use Rattle.chain.proofs.max6954_interrupt.Code as code
@@ -19,6 +22,10 @@ use Rattle.chain.proofs.max6954_interrupt.Code as code
 pub max6954-interrupt-spec : {M : Type 1} → statement M
 unfolding code.routine
 max6954-interrupt-spec 𝓤 H 𝓜 𝓖 𝓡 =
-    asks-spec work-def.name 0 [] (held interruptAnswer) (λ p. interrupt) (λ r n l. r ≡ record { number = n; raised = only l })
-    𝓤 H 𝓜 𝓖 𝓡 code.env key.name (code.unfolded 𝓤 H 𝓜 𝓡) (cited 𝓤 H _ 𝓜 𝓡 code.env surveyed-def.name surveyed-def.routine code.calls-chain·surveyed (surveyed-thm.met 𝓤 H 𝓜 𝓖 𝓡))
-    (cited 𝓤 H _ 𝓜 𝓡 code.env work-def.name work-def.routine code.calls-survey·Survey·interrupt (work-thm.met 𝓤 H 𝓜 𝓖 𝓡))
+    asks-spec own-def.name refused-def.name work-def.name 0 ([]) (held interruptAnswer) (λ p. interrupt)
+    (λ r ds x. x ≡ record { number = r .number; records = ds; back = r .raised ∷ [] })
+    (λ p r. r ≡ record { number = p .0; raised = 0 }) (λ n p r ds e. rw e)
+    (λ p r. r ≡ record { number = 0; raised = p .0 .registers .keys .interrupt }) (λ d p r ds z e. rw e)
+    𝓤 H 𝓜 𝓖 𝓡 code.env key.name (code.unfolded 𝓤 H 𝓜 𝓡) (cited 𝓤 H _ 𝓜 𝓡 code.env number-def.name number-def.routine code.calls-lent·call-number (number-thm.met 𝓤 H 𝓜 𝓖 𝓡))
+    (cited 𝓤 H _ 𝓜 𝓡 code.env own-def.name own-def.routine code.calls-pass·interrupt-number (own-thm.met 𝓤 H 𝓜 𝓖 𝓡)) (cited 𝓤 H _ 𝓜 𝓡 code.env refused-def.name refused-def.routine code.calls-answers·interrupt-refused (refused-thm.met 𝓤 H 𝓜 𝓖 𝓡))
+    (cited 𝓤 H _ 𝓜 𝓡 code.env work-def.name work-def.routine code.calls-answers·interrupt (work-thm.met 𝓤 H 𝓜 𝓖 𝓡))

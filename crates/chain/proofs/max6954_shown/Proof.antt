@@ -1,17 +1,22 @@
--- `chain::max6954_shown` has the shape of `Asks.antt`, with `Survey::shown` for the work.
+-- `chain::max6954_shown` has the shape of `Asks.antt`.
 -- Assumes nothing.
 use mathlib.Core.Path.{_≡_}
-use mathlib.Core.List.{[]}
-use denote.Triple.Table.{cited}
+use mathlib.Core.List.{[], _∷_}
+use Rattle.device.specs.Steps.{shownPlane}
 use Rattle.calls.specs.Calls.{shown}
-use Rattle.calls.specs.Served.{only}
-use Rattle.survey.proofs.Survey.shown.Symbol as work-def
-use Rattle.survey.proofs.Survey.shown.Met as work-thm
-use Rattle.chain.proofs.Records.{shownAnswer}
-use Rattle.chain.proofs.Params.{held}
+use Rattle.calls.specs.Served.{planeIndex}
+use Rattle.lent.proofs.Params.{held}
+use Rattle.chain.proofs.Answers.{shownAnswer}
+use denote.Triple.Table.{cited}
+use Rattle.lent.proofs.call_number.Symbol as number-def
+use Rattle.lent.proofs.call_number.Met as number-thm
+use Rattle.pass.proofs.shown_number.Symbol as own-def
+use Rattle.pass.proofs.shown_number.Met as own-thm
+use Rattle.answers.proofs.shown_refused.Symbol as refused-def
+use Rattle.answers.proofs.shown_refused.Met as refused-thm
+use Rattle.answers.proofs.shown.Symbol as work-def
+use Rattle.answers.proofs.shown.Met as work-thm
 use Rattle.chain.proofs.Asks.{asks-spec}
-use Rattle.chain.proofs.surveyed.Symbol as surveyed-def
-use Rattle.chain.proofs.surveyed.Met as surveyed-thm
 use Rattle.chain.proofs.max6954_shown.Key as key
 use Rattle.chain.proofs.max6954_shown.Statement.{statement}
 use Rattle.chain.proofs.max6954_shown.Code as code
@@ -19,6 +24,10 @@ use Rattle.chain.proofs.max6954_shown.Code as code
 pub max6954-shown-spec : {M : Type 1} → statement M
 unfolding code.routine
 max6954-shown-spec 𝓤 H 𝓜 𝓖 𝓡 =
-    asks-spec work-def.name 0 [] (held shownAnswer) (λ p. shown) (λ r n l. r ≡ record { number = n; plane = only l })
-    𝓤 H 𝓜 𝓖 𝓡 code.env key.name (code.unfolded 𝓤 H 𝓜 𝓡) (cited 𝓤 H _ 𝓜 𝓡 code.env surveyed-def.name surveyed-def.routine code.calls-chain·surveyed (surveyed-thm.met 𝓤 H 𝓜 𝓖 𝓡))
-    (cited 𝓤 H _ 𝓜 𝓡 code.env work-def.name work-def.routine code.calls-survey·Survey·shown (work-thm.met 𝓤 H 𝓜 𝓖 𝓡))
+    asks-spec own-def.name refused-def.name work-def.name 0 ([]) (held shownAnswer) (λ p. shown)
+    (λ r ds x. x ≡ record { number = r .number; records = ds; back = r .plane ∷ [] })
+    (λ p r. r ≡ record { number = p .0; plane = 0 }) (λ n p r ds e. rw e)
+    (λ p r. r ≡ record { number = 0; plane = planeIndex (shownPlane (p .0)) }) (λ d p r ds z e. rw e)
+    𝓤 H 𝓜 𝓖 𝓡 code.env key.name (code.unfolded 𝓤 H 𝓜 𝓡) (cited 𝓤 H _ 𝓜 𝓡 code.env number-def.name number-def.routine code.calls-lent·call-number (number-thm.met 𝓤 H 𝓜 𝓖 𝓡))
+    (cited 𝓤 H _ 𝓜 𝓡 code.env own-def.name own-def.routine code.calls-pass·shown-number (own-thm.met 𝓤 H 𝓜 𝓖 𝓡)) (cited 𝓤 H _ 𝓜 𝓡 code.env refused-def.name refused-def.routine code.calls-answers·shown-refused (refused-thm.met 𝓤 H 𝓜 𝓖 𝓡))
+    (cited 𝓤 H _ 𝓜 𝓡 code.env work-def.name work-def.routine code.calls-answers·shown (work-thm.met 𝓤 H 𝓜 𝓖 𝓡))

@@ -1,0 +1,23 @@
+-- The types of the answers, for the walks of this crate.
+-- Assumes nothing.
+use Rattle.lent.proofs.Walk.{Data, rec}
+use Rattle.answers.proofs.ShownAnswer as H
+use Rattle.answers.proofs.ShownAnswer.Laws as H′
+use Rattle.answers.proofs.InterruptAnswer as I
+use Rattle.answers.proofs.InterruptAnswer.Laws as I′
+use Rattle.brightness.proofs.BrightnessAnswer as B
+use Rattle.brightness.proofs.BrightnessAnswer.Laws as B′
+use Rattle.display.proofs.SegmentAnswer as P
+use Rattle.display.proofs.SegmentAnswer.Laws as P′
+
+abbrev pub segmentAnswer : Data
+segmentAnswer = rec P.the-type P′.the-laws P′.the-plain P′.the-copy
+
+abbrev pub brightnessAnswer : Data
+brightnessAnswer = rec B.the-type B′.the-laws B′.the-plain B′.the-copy
+
+abbrev pub shownAnswer : Data
+shownAnswer = rec H.the-type H′.the-laws H′.the-plain H′.the-copy
+
+abbrev pub interruptAnswer : Data
+interruptAnswer = rec I.the-type I′.the-laws I′.the-plain I′.the-copy

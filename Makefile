@@ -1,7 +1,7 @@
 # make run: the panel program on a sample script; make run SCRIPT=file on another: .hex is hex with comments, .txt the text form of
 # tools/script, anything else a script's own bytes.
 # make test: the gate. Everything is proved from nothing, every wrong version is tried, then our own tests run.
-# make bench: the speed of the exported calls and of the panel program, beside plain C and the second double.
+# make bench: the speed of the exported calls and of the panel program, beside plain C, C tuned by hand and the second double.
 .PHONY: run test bench
 SCRIPT ?= samples/first.hex
 

@@ -1,6 +1,5 @@
-/* The speed of the exported calls. The best of nine rounds, in nanoseconds a call.
+/* The speed of an access. The best of nine rounds, in nanoseconds a call.
      speed accesses         for each size: drivers, clocks, an access, and a shift register in plain C by clock and by bit index
-     speed calls            a table of each call at 1, 4 and 16 drivers
      speed count N CLOCKS   ten accesses, and ten of the shift register by clock, to be counted by callgrind */
 #define _POSIX_C_SOURCE 199309L
 #include <stdio.h>
@@ -9,8 +8,7 @@
 #include <time.h>
 #include "ratchetelm.h"
 
-static uint8_t sent[512], answer[512], plane[16];
-static uint16_t font[128];
+static uint8_t sent[512], answer[512];
 static max6954_device chain[16];
 static volatile unsigned sink;
 
@@ -95,29 +93,6 @@ static void accesses(void)
         }
 }
 
-static void calls(void)
-{
-    static const size_t lengths[] = { 1, 4, 16 };
-    static const char *const names[] = { "access, 16n clocks", "scan", "set_pins", "add_clocks", "segments", "brightness", "shown", "interrupt", "plane_number" };
-    double ns[9][3];
-    for (int a = 0; a < 3; a++) {
-        size_t n = lengths[a];
-        fresh();
-        BEST(ns[0][a], 10000, sink += max6954_access(chain, n, 16 * n, sent, sizeof sent, answer, sizeof answer));
-        BEST(ns[1][a], 10000, sink += max6954_scan(chain, n, n, (uint8_t)turn, 0, 0, 0));
-        BEST(ns[2][a], 10000, sink += max6954_set_pins(chain, n, n, turn % 32));
-        BEST(ns[3][a], 10000, sink += max6954_add_clocks(chain, n, n, turn));
-        BEST(ns[4][a], 10000, sink += max6954_segments(chain, n, n, turn % 8, font, 128, font, 128).pins[18]);
-        BEST(ns[5][a], 10000, sink += max6954_brightness(chain, n, n, turn % 16).sixteenths);
-        BEST(ns[6][a], 10000, sink += max6954_shown(chain, n, n).plane);
-        BEST(ns[7][a], 10000, sink += max6954_interrupt(chain, n, n).raised);
-        BEST(ns[8][a], 10000, sink += max6954_plane_number(chain, n, n, plane, 16, plane, 16, 2, 9));
-    }
-    printf("each call, ns       1 driver 4 drivers 16 drivers\n");
-    for (int i = 0; i < 9; i++)
-        printf("%-18s %9.1f %9.1f %10.1f\n", names[i], ns[i][0], ns[i][1], ns[i][2]);
-}
-
 static void count(size_t n, size_t clocks)
 {
     uint16_t words[16] = { 0 };
@@ -134,14 +109,10 @@ int main(int argc, char **argv)
     /* digit writes to every digit, in turn */
     for (int i = 0; i < 512; i++)
         sent[i] = (uint8_t)(i % 2 ? i * 37 : 0x20 + i / 2 % 16);
-    for (int i = 0; i < 128; i++)
-        font[i] = (uint16_t)(257 * i);
     if (argc == 4 && strcmp(argv[1], "count") == 0)
         count(strtoul(argv[2], NULL, 10), strtoul(argv[3], NULL, 10));
     else if (argc == 2 && strcmp(argv[1], "accesses") == 0)
         accesses();
-    else if (argc == 2 && strcmp(argv[1], "calls") == 0)
-        calls();
     else
         return 2;
     return 0;

@@ -37,10 +37,13 @@ typedef struct {
     __typeof__(&max6954_shown) shown;
     __typeof__(&max6954_interrupt) interrupt;
     __typeof__(&max6954_plane_number) plane_number;
+    __typeof__(&max6954_plane_shown) plane_shown;
     __typeof__(&max6954_plane) plane;
 } calls;
 
-#define CALLS(p) p##access, p##scan, p##set_pins, p##add_clocks, p##segments, p##brightness, p##shown, p##interrupt, p##plane_number, p##plane
+#define CALLS(p)                                                                                                                         \
+    p##access, p##scan, p##set_pins, p##add_clocks, p##segments, p##brightness, p##shown, p##interrupt, p##plane_number, p##plane_shown, \
+        p##plane
 
 static const calls doubles[2] = { { "library", CALLS(max6954_) }, { "tuned  ", CALLS(tuned_) } };
 
@@ -106,10 +109,14 @@ static reply made(const calls *by, lent *on, const call *c)
         r.back[0] = a.raised;
         break;
     }
-    case PLANE:
+    case PLANE: {
+        const max6954_shown_answer a = by->plane_shown(chain, c->n, c->driver, p0, c->lengths[0], p1, c->lengths[1], c->first, c->last);
         r.number = by->plane_number(chain, c->n, c->driver, p0, c->lengths[0], p1, c->lengths[1], c->first, c->last);
+        r.back[0] = a.plane;
+        r.back[1] = a.number;
         r.part = by->plane(chain, c->n, c->driver, p0, c->lengths[0], p1, c->lengths[1], c->first, c->last);
         break;
+    }
     }
     return r;
 }

@@ -55,6 +55,7 @@ BOTH(brightness, brightness(chain, n, DRIVER, ANY % 16).sixteenths)
 BOTH(shown, shown(chain, n, DRIVER).plane)
 BOTH(interrupt, interrupt(chain, n, DRIVER).raised)
 BOTH(plane_number, plane_number(chain, n, DRIVER, p0, 16, p1, 16, 2, 9))
+BOTH(plane_shown, plane_shown(chain, n, DRIVER, p0, 16, p1, 16, 2, 9).plane)
 BOTH(plane, plane(chain, n, DRIVER, p0, 16, p1, 16, 2, 9)[0])
 
 static const struct {
@@ -73,6 +74,7 @@ static const struct {
     { "shown", shown_ours, shown_tuned, 7, 1.5 },
     { "interrupt", interrupt_ours, interrupt_tuned, 7, 1.5 },
     { "plane_number", plane_number_ours, plane_number_tuned, 7, 1.5 },
+    { "plane_shown", plane_shown_ours, plane_shown_tuned, 7, 0 },
     { "plane", plane_ours, plane_tuned, 7, 0 },
 };
 

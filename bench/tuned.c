@@ -451,6 +451,15 @@ uint8_t tuned_plane_number(const max6954_device *chain, size_t n, size_t driver,
     return number_of(chain, n, driver, first > last || last > 15 || p0_length != 16 || p1_length != 16);
 }
 
+max6954_shown_answer tuned_plane_shown(const max6954_device *chain, size_t n, size_t driver, const uint8_t *p0, size_t p0_length,
+                                       const uint8_t *p1, size_t p1_length, size_t first, size_t last)
+{
+    max6954_shown_answer out = { tuned_plane_number(chain, n, driver, p0, p0_length, p1, p1_length, first, last), 0 };
+    if (out.number == 0)
+        out.plane = (uint8_t)shows_p1(&chain[driver - 1].registers);
+    return out;
+}
+
 const uint8_t *tuned_plane(const max6954_device *chain, size_t n, size_t driver, const uint8_t *p0, size_t p0_length, const uint8_t *p1,
                            size_t p1_length, size_t first, size_t last)
 {

@@ -150,14 +150,17 @@ max6954_interrupt_answer max6954_interrupt(const max6954_device *chain, size_t n
 uint8_t max6954_plane_number(const max6954_device *chain, size_t n, size_t driver, const uint8_t *p0, size_t p0_length, const uint8_t *p1,
                              size_t p1_length, size_t first, size_t last);
 
+/* The same number, and the plane that the part is of. Gives 6. */
+max6954_shown_answer max6954_plane_shown(const max6954_device *chain, size_t n, size_t driver, const uint8_t *p0, size_t p0_length,
+                                         const uint8_t *p1, size_t p1_length, size_t first, size_t last);
+
 /* Digits first to last, both included, of the plane that a driver shows, of two lent planes of 16 digits, uncopied: last + 1 - first bytes from
    the result on, or NULL where refused. */
 static inline const uint8_t *max6954_plane(const max6954_device *chain, size_t n, size_t driver, const uint8_t *p0, size_t p0_length,
                                            const uint8_t *p1, size_t p1_length, size_t first, size_t last)
 {
-    if (max6954_plane_number(chain, n, driver, p0, p0_length, p1, p1_length, first, last) != 0)
-        return NULL;
-    return (max6954_shown(chain, n, driver).plane ? p1 : p0) + first;
+    const max6954_shown_answer shown = max6954_plane_shown(chain, n, driver, p0, p0_length, p1, p1_length, first, last);
+    return shown.number ? NULL : (shown.plane ? p1 : p0) + first;
 }
 
 #ifdef __cplusplus

@@ -219,6 +219,7 @@ static int powered_up(void)
 static void answers(void)
 {
     static const uint16_t font[128] = { 0 };
+    static const uint8_t plane[16] = { 0 };
     static const uint8_t pins[19] = { 1, 0, 2, 4, 2, 2, 3, 2, 2, 2, 2, 2, 2, 2, 2, 2, 2, 3, 3 }, none[19] = { 0 };
     /* global intensity 9, blinking; an A with its point on digit 0 of P1, which is shown; a key debounced */
     prepare("W0209 W0409 W408A C200000 W0680 W0810 S10000000 S10000000");
@@ -232,6 +233,10 @@ static void answers(void)
     const max6954_shown_answer p = max6954_shown(chain, DRIVERS, DRIVER), p4 = max6954_shown(chain, DRIVERS, 4);
     holds("served", "shown answer", p.number == 0 && p.plane == 1);
     holds("refused", "shown answer", p4.number == 2 && p4.plane == 0);
+    const max6954_shown_answer q = max6954_plane_shown(chain, DRIVERS, DRIVER, plane, 16, plane, 16, 0, 15);
+    const max6954_shown_answer q4 = max6954_plane_shown(chain, DRIVERS, 4, plane, 16, plane, 16, 0, 15);
+    holds("served", "shown answer of a part", q.number == 0 && q.plane == 1);
+    holds("refused", "shown answer of a part", q4.number == 2 && q4.plane == 0);
     const max6954_interrupt_answer i = max6954_interrupt(chain, DRIVERS, DRIVER), i4 = max6954_interrupt(chain, DRIVERS, 4);
     holds("served", "interrupt answer", i.number == 0 && i.raised == 1);
     holds("refused", "interrupt answer", i4.number == 2 && i4.raised == 0);

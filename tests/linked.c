@@ -109,15 +109,26 @@ static void refusals(void)
     chain[2].registers.controls.limit = 8;
     remember();
     refused("7: an unsound record, whichever driver is named", 7, max6954_interrupt(chain, 3, 1).number);
+    refused("7: an unsound record, in a part", 7, max6954_plane_shown(chain, 3, 1, plane, 16, plane, 16, 0, 15).number);
     refused("7: an unsound record, in an access", 7, max6954_access(chain, 3, 48, bytes, 6, answer, 6));
     int zero = max6954_brightness(chain, 3, 1, 0).sixteenths == 0 && max6954_shown(chain, 3, 1).plane == 0;
     holds("a refused answer holds 0 and drives no pin", zero && max6954_interrupt(chain, 3, 1).raised == 0 && undriven(max6954_segments(chain, 3, 1, 0, font, 128, font, 128)));
 }
 
+static const uint8_t p0[16] = { 0, 1, 2, 3 }, p1[16] = { 9, 8, 7, 6 };
+
+/* Whether a driver's part has this number and is of this plane, by each call that says so. */
+static int part_of(size_t driver, size_t first, size_t last, int number, int plane)
+{
+    const max6954_shown_answer of = max6954_plane_shown(chain, 2, driver, p0, 16, p1, 16, first, last);
+    const uint8_t *part = number ? NULL : (plane ? p1 : p0) + first;
+    return of.number == number && of.plane == plane && max6954_plane_number(chain, 2, driver, p0, 16, p1, 16, first, last) == number &&
+           max6954_plane(chain, 2, driver, p0, 16, p1, 16, first, last) == part;
+}
+
 static void questions(void)
 {
     static uint16_t font[128];
-    static const uint8_t p0[16] = { 0, 1, 2, 3 }, p1[16] = { 9, 8, 7, 6 };
     fresh();
     /* driver 2: normal operation, blinking slowly; digit 0 is an A with its point */
     int served = sent(2, 32, "\x04\x09\x00\x00") == 0 && sent(2, 32, "\x60\x8A\x00\x00") == 0;
@@ -135,10 +146,10 @@ static void questions(void)
     holds("segments: the first table is for 14 segments, the second for 16", types && max6954_segments(chain, 2, 2, 0, font, 128, lit, 128).pins[2] == MAX6954_LIT);
     max6954_brightness_answer b = max6954_brightness(chain, 2, 2, 15);
     holds("brightness: 1 of 16 at power-up", b.number == 0 && b.sixteenths == 1);
-    holds("the plane shown is P0 before 2,000,000 clocks", max6954_plane(chain, 2, 2, p0, 16, p1, 16, 1, 2) == p0 + 1);
+    holds("the plane shown is P0 before 2,000,000 clocks", part_of(2, 1, 2, 0, 0));
     int later = max6954_add_clocks(chain, 2, 2, 2000000) == 0 && max6954_shown(chain, 2, 2).plane == 1;
-    holds("and P1 after them", later && max6954_plane(chain, 2, 2, p0, 16, p1, 16, 1, 2) == p1 + 1);
-    holds("a refused part is NULL", max6954_plane(chain, 2, 3, p0, 16, p1, 16, 1, 2) == NULL);
+    holds("and P1 after them", later && part_of(2, 1, 2, 0, 1));
+    holds("a refused part is NULL, of plane 0", part_of(3, 1, 2, 2, 0) && part_of(2, 2, 1, 6, 0) && part_of(2, 1, 16, 6, 0));
     /* group A configured, key 0 masked: two scans debounce it */
     int keyed = sent(2, 32, "\x06\x20\x00\x00") == 0 && sent(2, 32, "\x08\x01\x00\x00") == 0;
     keyed = keyed && max6954_scan(chain, 2, 2, 1, 0, 0, 0) == 0 && max6954_interrupt(chain, 2, 2).raised == 0;

@@ -120,8 +120,8 @@ pub fn plane<'a>(
 ) -> Result<&'a [u8], Refusal> {
     let (n, l0, l1) = (chain.len(), p0.len(), p1.len());
     // SAFETY: each pointer has the length of its slice, and nothing is written.
-    Refusal::of(unsafe {
-        sys::max6954_plane_number(
+    let answer = unsafe {
+        sys::max6954_plane_shown(
             chain.as_ptr(),
             n,
             driver,
@@ -132,8 +132,8 @@ pub fn plane<'a>(
             first,
             last,
         )
-    })?;
-    let part = match shown(chain, driver)? {
+    };
+    let part = match plane_of(answer)? {
         Plane::P0 => p0,
         Plane::P1 => p1,
     };
@@ -179,7 +179,10 @@ pub fn brightness(chain: &[Device], driver: usize, digit: usize) -> Result<u8, R
 /// The plane that a driver shows.
 pub fn shown(chain: &[Device], driver: usize) -> Result<Plane, Refusal> {
     // SAFETY: the pointer has the length of its slice, and nothing is written.
-    let answer = unsafe { sys::max6954_shown(chain.as_ptr(), chain.len(), driver) };
+    plane_of(unsafe { sys::max6954_shown(chain.as_ptr(), chain.len(), driver) })
+}
+
+fn plane_of(answer: sys::ShownAnswer) -> Result<Plane, Refusal> {
     Refusal::of(answer.number)?;
     Ok(if answer.plane == 0 {
         Plane::P0

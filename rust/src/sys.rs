@@ -1,4 +1,4 @@
-//! The exported calls, as include/ratchetelm.h declares them.
+//! The exported calls that the safe ones make, as include/ratchetelm.h declares them.
 
 // A record that isn't laid out as in C is not built.
 #![deny(improper_ctypes)]
@@ -78,7 +78,7 @@ extern "C" {
 
     pub fn max6954_interrupt(chain: *const Device, n: usize, driver: usize) -> InterruptAnswer;
 
-    pub fn max6954_plane_number(
+    pub fn max6954_plane_shown(
         chain: *const Device,
         n: usize,
         driver: usize,
@@ -88,5 +88,5 @@ extern "C" {
         p1_length: usize,
         first: usize,
         last: usize,
-    ) -> u8;
+    ) -> ShownAnswer;
 }

@@ -51,25 +51,43 @@ impl Rows {
     /// What a call does by the library, and by the second double.
     fn ask(&mut self, call: &Call) -> [Outcome; 2] {
         let row = 1..self.second.len() - 1;
-        let ours = proved::call(&mut self.library[row.clone()], call);
-        let second = second_double::call(&mut self.second[row], call);
+        let library = &mut self.library[row.clone()];
+        let (ours, our_part) = (proved::call(library, call), proved::part(library, call));
+        let row = &mut self.second[row];
+        let second = second_double::call(row, call);
+        let second_part = part(row, call, second.number);
         [
             Outcome {
                 reply: ours,
+                part: our_part,
                 records: convert::records(&self.library),
             },
             Outcome {
                 reply: second,
+                part: second_part,
                 records: self.second.clone(),
             },
         ]
     }
 }
 
-/// The reply to a call, and the records after it with the guards.
+/// What the second double has for `proved::part`: the number of a part, and that with the plane shown, 0 where refused.
+fn part(row: &mut [Record], call: &Call, number: u8) -> Option<(u8, Reply)> {
+    let Call::Plane { driver, .. } = *call else {
+        return None;
+    };
+    let back = match number {
+        0 => second_double::call(row, &Call::Shown { driver }).back,
+        _ => vec![0],
+    };
+    Some((number, Reply { number, back }))
+}
+
+/// The reply to a call, what is said of its part, and the records after it with the guards.
 #[derive(PartialEq)]
 struct Outcome {
     reply: Reply,
+    part: Option<(u8, Reply)>,
     records: Vec<Record>,
 }
 
@@ -78,6 +96,10 @@ impl Outcome {
     fn beside(&self, other: &Outcome) -> String {
         let Reply { number, back } = &self.reply;
         let mut line = format!("number {number}, back {}", hex(back));
+        if let Some((alone, Reply { number, back })) = &self.part {
+            let plane = hex(back);
+            line.push_str(&format!(", part {alone}, {number} of plane {plane}"));
+        }
         for (driver, (own, other)) in self.records.iter().zip(&other.records).enumerate() {
             if own != other {
                 line.push_str(&format!(", record {driver}{}", unlike(own, other)));

@@ -38,6 +38,28 @@ extern "C" {
     fn max6954_brightness(chain: *const Device, n: usize, driver: usize, digit: usize) -> One;
     fn max6954_shown(chain: *const Device, n: usize, driver: usize) -> One;
     fn max6954_interrupt(chain: *const Device, n: usize, driver: usize) -> One;
+    fn max6954_plane_number(
+        chain: *const Device,
+        n: usize,
+        driver: usize,
+        p0: *const u8,
+        p0_length: usize,
+        p1: *const u8,
+        p1_length: usize,
+        first: usize,
+        last: usize,
+    ) -> u8;
+    fn max6954_plane_shown(
+        chain: *const Device,
+        n: usize,
+        driver: usize,
+        p0: *const u8,
+        p0_length: usize,
+        p1: *const u8,
+        p1_length: usize,
+        first: usize,
+        last: usize,
+    ) -> One;
 }
 
 pub fn segments(
@@ -79,4 +101,53 @@ pub fn shown(chain: &[Device], driver: usize) -> Reply {
 pub fn interrupt(chain: &[Device], driver: usize) -> Reply {
     // SAFETY: the pointer has the length of its slice, and nothing is written.
     unsafe { max6954_interrupt(chain.as_ptr(), chain.len(), driver) }.into()
+}
+
+pub fn plane_number(
+    chain: &[Device],
+    driver: usize,
+    planes: [&[u8]; 2],
+    first: usize,
+    last: usize,
+) -> u8 {
+    let [p0, p1] = planes;
+    // SAFETY: each pointer has the length of its slice, and nothing is written.
+    unsafe {
+        max6954_plane_number(
+            chain.as_ptr(),
+            chain.len(),
+            driver,
+            p0.as_ptr(),
+            p0.len(),
+            p1.as_ptr(),
+            p1.len(),
+            first,
+            last,
+        )
+    }
+}
+
+pub fn plane_shown(
+    chain: &[Device],
+    driver: usize,
+    planes: [&[u8]; 2],
+    first: usize,
+    last: usize,
+) -> Reply {
+    let [p0, p1] = planes;
+    // SAFETY: each pointer has the length of its slice, and nothing is written.
+    let answer = unsafe {
+        max6954_plane_shown(
+            chain.as_ptr(),
+            chain.len(),
+            driver,
+            p0.as_ptr(),
+            p0.len(),
+            p1.as_ptr(),
+            p1.len(),
+            first,
+            last,
+        )
+    };
+    answer.into()
 }

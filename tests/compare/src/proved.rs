@@ -53,6 +53,25 @@ fn question(chain: &[Device], call: &Call) -> Reply {
     }
 }
 
+/// Of a call for a part: its number alone, and its number with the plane that the part is of.
+pub fn part(chain: &[Device], call: &Call) -> Option<(u8, Reply)> {
+    let Call::Plane {
+        driver,
+        p0,
+        p1,
+        first,
+        last,
+    } = call
+    else {
+        return None;
+    };
+    let planes = [&p0[..], &p1[..]];
+    Some((
+        exported::plane_number(chain, *driver, planes, *first, *last),
+        exported::plane_shown(chain, *driver, planes, *first, *last),
+    ))
+}
+
 /// The room after an access; with the guards where one of them changed, so that it is too long.
 fn access(chain: &mut [Device], clocks: usize, sent: &[u8], room: &[u8]) -> Reply {
     let mut lent = [&GUARD[..], room, &GUARD[..]].concat();

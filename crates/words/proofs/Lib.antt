@@ -1,3 +1,4 @@
+pub mod Arms
 pub mod Arrays
 pub mod Below
 pub mod Bits

@@ -45,42 +45,6 @@ pub enum Word {
     Read(Register),
 }
 
-// 0x00 to 0x07, alike written and read.
-const LOW: [Register; 8] = [
-    Register::NoOp,
-    Register::Control(ControlRegister::DecodeMode),
-    Register::Control(ControlRegister::GlobalIntensity),
-    Register::Control(ControlRegister::ScanLimit),
-    Register::Configuration,
-    Register::Control(ControlRegister::GpioData),
-    Register::Control(ControlRegister::PortConfiguration),
-    Register::Control(ControlRegister::DisplayTest),
-];
-
-// 0x08 to 0x0F as written.
-const WRITTEN: [Register; 8] = [
-    Register::KeyMask(KeyGroup::A),
-    Register::KeyMask(KeyGroup::B),
-    Register::KeyMask(KeyGroup::C),
-    Register::KeyMask(KeyGroup::D),
-    Register::Control(ControlRegister::DigitType),
-    Register::Unlisted,
-    Register::Unlisted,
-    Register::Unlisted,
-];
-
-// 0x08 to 0x0F as read.
-const READ: [Register; 8] = [
-    Register::KeyDebounced(KeyGroup::A),
-    Register::KeyDebounced(KeyGroup::B),
-    Register::KeyDebounced(KeyGroup::C),
-    Register::KeyDebounced(KeyGroup::D),
-    Register::KeyPressed(KeyGroup::A),
-    Register::KeyPressed(KeyGroup::B),
-    Register::KeyPressed(KeyGroup::C),
-    Register::KeyPressed(KeyGroup::D),
-];
-
 // Addresses from 0x10 on, by their two hexadecimal digits.
 fn high_register(row: u8, column: u8) -> Register
     ensures { λ r. ⌜ r ≡ highRegister row column ⌝ }
@@ -106,11 +70,16 @@ fn high_register(row: u8, column: u8) -> Register
 fn alike_at(address: u8) -> Register
     ensures { λ r. ⌜ r ≡ alikeAt address ⌝ }
 {
-    if address < 8 {
-        let low = address as usize;
-        LOW[low]
-    } else {
-        high_register(address / 16, address % 16)
+    match address {
+        0 => Register::NoOp,
+        1 => Register::Control(ControlRegister::DecodeMode),
+        2 => Register::Control(ControlRegister::GlobalIntensity),
+        3 => Register::Control(ControlRegister::ScanLimit),
+        4 => Register::Configuration,
+        5 => Register::Control(ControlRegister::GpioData),
+        6 => Register::Control(ControlRegister::PortConfiguration),
+        7 => Register::Control(ControlRegister::DisplayTest),
+        _ => high_register(address / 16, address % 16),
     }
 }
 
@@ -118,11 +87,16 @@ fn alike_at(address: u8) -> Register
 pub fn written_at(address: u8) -> Register
     ensures { λ r. ⌜ r ≡ writtenAt address ⌝ }
 {
-    if address / 8 == 1 {
-        let low = (address % 8) as usize;
-        WRITTEN[low]
-    } else {
-        alike_at(address)
+    match address {
+        8 => Register::KeyMask(KeyGroup::A),
+        9 => Register::KeyMask(KeyGroup::B),
+        10 => Register::KeyMask(KeyGroup::C),
+        11 => Register::KeyMask(KeyGroup::D),
+        12 => Register::Control(ControlRegister::DigitType),
+        13 => Register::Unlisted,
+        14 => Register::Unlisted,
+        15 => Register::Unlisted,
+        _ => alike_at(address),
     }
 }
 
@@ -130,11 +104,16 @@ pub fn written_at(address: u8) -> Register
 pub fn read_at(address: u8) -> Register
     ensures { λ r. ⌜ r ≡ readAt address ⌝ }
 {
-    if address / 8 == 1 {
-        let low = (address % 8) as usize;
-        READ[low]
-    } else {
-        alike_at(address)
+    match address {
+        8 => Register::KeyDebounced(KeyGroup::A),
+        9 => Register::KeyDebounced(KeyGroup::B),
+        10 => Register::KeyDebounced(KeyGroup::C),
+        11 => Register::KeyDebounced(KeyGroup::D),
+        12 => Register::KeyPressed(KeyGroup::A),
+        13 => Register::KeyPressed(KeyGroup::B),
+        14 => Register::KeyPressed(KeyGroup::C),
+        15 => Register::KeyPressed(KeyGroup::D),
+        _ => alike_at(address),
     }
 }
 

@@ -1,2 +1,4 @@
+pub mod Bytewise
 pub mod Keyed
 pub mod Sound
+pub mod Together

@@ -1,6 +1,7 @@
 // The keys of a MAX6954: four groups of eight, scanned into debounced registers with an interrupt.
 ghost use mathlib.Core.Path.{_≡_};
-ghost use Rattle.keys.specs.Keys.{groupOf, withGroup, newly, scannedGroup, raises, groupsOf, closedOf, maskWritten, debouncedRead, scannedKeys};
+ghost use Rattle.keys.specs.Keys.{groupOf, withGroup, groupsOf, maskWritten, debouncedRead, scannedKeys};
+ghost use Rattle.keys.specs.Packed.{joined, split, configured, packed, unpacked, newlyPacked, scannedPacked, raisesPacked};
 ghost use Rattle.words.specs.Choice.{if};
 ghost use Rattle.keys.specs.KeyByKey.{KeyByKey};
 use words::KeyGroup;
@@ -21,33 +22,6 @@ impl Group {
         pressed: 0,
         held: 0,
     };
-
-    // The keys that a scan newly debounces.
-    fn newly(self, closed: u8) -> u8
-        ensures { λ r. ⌜ r ≡ newly self closed ⌝ }
-    {
-        closed & self.pressed & (255 - self.held)
-    }
-
-    fn scanned(self, closed: u8) -> Group
-        ensures { λ r. ⌜ r ≡ scannedGroup self closed ⌝ }
-    {
-        let new = self.newly(closed);
-        Group {
-            mask: self.mask,
-            debounced: self.debounced | new,
-            pressed: closed,
-            held: closed & (self.held | new),
-        }
-    }
-
-    // Whether a scan raises the interrupt.
-    fn raises(self, closed: u8) -> bool
-        ensures { λ r. ⌜ r ≡ raises self closed ⌝ }
-    {
-        let new = self.newly(closed);
-        new & self.mask != 0
-    }
 }
 
 // interrupt is 0 or 1 in a sound record.
@@ -126,27 +100,145 @@ impl Keys {
         self.with_group(group, new)
     }
 
-    // A scan: the closed keys of groups A to D, and the port configuration.
+    // The registers of the four groups, packed.
+    fn packed(self) -> Packed
+        ensures { λ r. ⌜ r ≡ packed self ⌝ }
+    {
+        let a = self.a;
+        let b = self.b;
+        let c = self.c;
+        let d = self.d;
+        Packed {
+            mask: joined(a.mask, b.mask, c.mask, d.mask),
+            debounced: joined(a.debounced, b.debounced, c.debounced, d.debounced),
+            pressed: joined(a.pressed, b.pressed, c.pressed, d.pressed),
+            held: joined(a.held, b.held, c.held, d.held),
+        }
+    }
+
+    // A scan: the closed keys of groups A to D, and the port configuration. The four groups are computed at once.
     pub fn scanned(self, ports: u8, a: u8, b: u8, c: u8, d: u8) -> Keys
         ensures { λ r. ⌜ r ≡ scannedKeys self ports a b c d ⌝ }
     {
-        let ca = closed_of(ports, 0, a);
-        let cb = closed_of(ports, 1, b);
-        let cc = closed_of(ports, 2, c);
-        let cd = closed_of(ports, 3, d);
-        let ga = self.a;
-        let gb = self.b;
-        let gc = self.c;
-        let gd = self.d;
-        let raised = ga.raises(ca) | gb.raises(cb) | gc.raises(cc) | gd.raises(cd);
-        let interrupt = raised_or(raised, self.interrupt);
+        let old = self.packed();
+        let closed = joined(a, b, c, d) & configured(ports);
+        let interrupt = raised_or(old.raises(closed), self.interrupt);
+        let new = old.scanned(closed);
+        new.unpacked(interrupt)
+    }
+}
+
+// The registers of all four groups, one number each: group A in the lowest byte, D in the highest.
+struct Packed {
+    mask: u32,
+    debounced: u32,
+    pressed: u32,
+    held: u32,
+}
+
+impl Packed {
+    // The keys that a scan newly debounces.
+    fn newly(self, closed: u32) -> u32
+        ensures { λ r. ⌜ r ≡ newlyPacked self closed ⌝ }
+    {
+        closed & self.pressed & (0xFFFFFFFF - self.held)
+    }
+
+    fn scanned(self, closed: u32) -> Packed
+        ensures { λ r. ⌜ r ≡ scannedPacked self closed ⌝ }
+    {
+        let new = self.newly(closed);
+        Packed {
+            mask: self.mask,
+            debounced: self.debounced | new,
+            pressed: closed,
+            held: closed & (self.held | new),
+        }
+    }
+
+    // Whether a scan raises the interrupt.
+    fn raises(self, closed: u32) -> bool
+        ensures { λ r. ⌜ r ≡ raisesPacked self closed ⌝ }
+    {
+        let new = self.newly(closed);
+        new & self.mask != 0
+    }
+
+    // The four groups, with an interrupt.
+    fn unpacked(self, interrupt: u8) -> Keys
+        ensures { λ r. ⌜ r ≡ unpacked self interrupt ⌝ }
+    {
+        let mask = split(self.mask);
+        let debounced = split(self.debounced);
+        let pressed = split(self.pressed);
+        let held = split(self.held);
         Keys {
-            a: ga.scanned(ca),
-            b: gb.scanned(cb),
-            c: gc.scanned(cc),
-            d: gd.scanned(cd),
+            a: Group {
+                mask: mask.a,
+                debounced: debounced.a,
+                pressed: pressed.a,
+                held: held.a,
+            },
+            b: Group {
+                mask: mask.b,
+                debounced: debounced.b,
+                pressed: pressed.b,
+                held: held.b,
+            },
+            c: Group {
+                mask: mask.c,
+                debounced: debounced.c,
+                pressed: pressed.c,
+                held: held.c,
+            },
+            d: Group {
+                mask: mask.d,
+                debounced: debounced.d,
+                pressed: pressed.d,
+                held: held.d,
+            },
             interrupt,
         }
+    }
+}
+
+// Four bytes as one number, the first lowest.
+fn joined(a: u8, b: u8, c: u8, d: u8) -> u32
+    ensures { λ r. ⌜ r ≡ joined a b c d ⌝ }
+{
+    a as u32 + b as u32 * 0x100 + c as u32 * 0x10000 + d as u32 * 0x1000000
+}
+
+// One byte of each group.
+struct Four {
+    a: u8,
+    b: u8,
+    c: u8,
+    d: u8,
+}
+
+// The four bytes of a number, the lowest first.
+fn split(x: u32) -> Four
+    ensures { λ r. ⌜ r ≡ split x ⌝ }
+{
+    Four {
+        a: (x % 256) as u8,
+        b: (x / 0x100 % 256) as u8,
+        c: (x / 0x10000 % 256) as u8,
+        d: (x / 0x1000000 % 256) as u8,
+    }
+}
+
+// The keys of the groups that a port configuration sets up.
+fn configured(ports: u8) -> u32
+    ensures { λ r. ⌜ r ≡ configured ports ⌝ }
+{
+    match ports / 32 {
+        0 => 0,
+        1 => 0xFF,
+        2 => 0xFFFF,
+        3 => 0xFFFFFF,
+        _ => 0xFFFFFFFF,
     }
 }
 
@@ -156,13 +248,6 @@ pub fn groups(ports: u8) -> u8
 {
     let number = ports / 32;
     if number < 4 { number } else { 4 }
-}
-
-// The keys of a group that count as closed: none where the group isn't configured.
-fn closed_of(ports: u8, group: u8, closed: u8) -> u8
-    ensures { λ r. ⌜ r ≡ closedOf ports group closed ⌝ }
-{
-    if group < groups(ports) { closed } else { 0 }
 }
 
 // The interrupt after a scan: 1 where one is raised, else as it was.

@@ -1,31 +1,27 @@
 -- `keys::Keys::scanned` meets its contract. Assumes nothing.
+use Prim.Native.Nat.{ℕ, _<_}
+use mathlib.Core.List.{List}
+use mir.Val.{Val}
+use denote.Shadow.{shadow}
+use Rattle.keys.specs.declared.Group.{Group}
+use Rattle.keys.proofs.Group.{the-type, the-field}
+use Rattle.keys.proofs.Bytewise.{at-places}
+use Rattle.keys.proofs.Together.{Bytes, four, scanned-packed}
 use borrow.Author.Needs.{needs}
 use Rattle.keys.proofs.Keys.scanned.Statement.{statement}
 use Rattle.keys.proofs.Keys.scanned.Tie as tie
 
-closed-of-requires : tie.Need-closed-of-requires
-closed-of-requires c κs = search needs
+packed-requires : tie.Need-packed-requires
+packed-requires c κs = search needs
 
-closed-of-requires-2 : tie.Need-closed-of-requires-2
-closed-of-requires-2 c κs = search needs
+joined-requires : tie.Need-joined-requires
+joined-requires c κs = search needs
 
-closed-of-requires-3 : tie.Need-closed-of-requires-3
-closed-of-requires-3 c κs = search needs
-
-closed-of-requires-4 : tie.Need-closed-of-requires-4
-closed-of-requires-4 c κs = search needs
+configured-requires : tie.Need-configured-requires
+configured-requires c κs = search needs
 
 raises-requires : tie.Need-raises-requires
 raises-requires c κs = search needs
-
-raises-requires-2 : tie.Need-raises-requires-2
-raises-requires-2 c κs = search needs
-
-raises-requires-3 : tie.Need-raises-requires-3
-raises-requires-3 c κs = search needs
-
-raises-requires-4 : tie.Need-raises-requires-4
-raises-requires-4 c κs = search needs
 
 raised-or-requires : tie.Need-raised-or-requires
 raised-or-requires c κs = search needs
@@ -33,33 +29,38 @@ raised-or-requires c κs = search needs
 scanned-requires : tie.Need-scanned-requires
 scanned-requires c κs = search needs
 
-scanned-requires-2 : tie.Need-scanned-requires-2
-scanned-requires-2 c κs = search needs
+unpacked-requires : tie.Need-unpacked-requires
+unpacked-requires c κs = search needs
 
-scanned-requires-3 : tie.Need-scanned-requires-3
-scanned-requires-3 c κs = search needs
+-- what a group holds are bytes, by its type
+bytes : (g : Group) (us : List Val) → shadow (the-field .row .own (the-type .to g) us) → Bytes g
+bytes g us w =
+    record { mask = w .1 .1 .0 .1; debounced = w .1 .1 .1 .0 .1; pressed = w .1 .1 .1 .1 .0 .1; held = w .1 .1 .1 .1 .1 .0 .1 }
 
-scanned-requires-4 : tie.Need-scanned-requires-4
-scanned-requires-4 c κs = search needs
+registers : (c : tie.Start) (j : ℕ) → j < 4 → Bytes (four (c .args .self .a) (c .args .self .b) (c .args .self .c) (c .args .self .d) j)
+registers c =
+    let w = c .good .0 .1 .1 in
+    at-places (λ j. Bytes (four (c .args .self .a) (c .args .self .b) (c .args .self .c) (c .args .self .d) j)) (bytes _ _ (w .0)) (bytes _ _ (w .1 .0)) (bytes _ _ (w .1 .1 .0)) (bytes _ _ (w .1 .1 .1 .0))
+
+closed : (c : tie.Start) (j : ℕ) → j < 4 → four (c .args .a) (c .args .b) (c .args .c) (c .args .d) j < 256
+closed c =
+    at-places (λ j. four (c .args .a) (c .args .b) (c .args .c) (c .args .d) j < 256) (search needs) (search needs) (search needs) (search needs)
 
 returns : tie.Need-returns
-returns c = simp (c .before .before .before .before .before .before .before .before .before .before .before .before .before .before .before .before .closed-of .ensures, c .before .before .before .before .before .before .before .before .before .before .before .before .before .before .before .closed-of2 .ensures, c .before .before .before .before .before .before .before .before .before .before .before .before .before .before .closed-of3 .ensures, c .before .before .before .before .before .before .before .before .before .before .before .before .before .closed-of4 .ensures, c .before .before .before .before .before .before .before .before .raises .ensures, c .before .before .before .before .before .before .before .raises2 .ensures, c .before .before .before .before .before .before .raises3 .ensures, c .before .before .before .before .before .raises4 .ensures, c .before .before .before .before .raised-or .ensures, c .before .before .before .scanned .ensures, c .before .before .scanned2 .ensures, c .before .scanned3 .ensures, c .scanned4 .ensures)
+returns c =
+    let s = c .before .before .before .before .before .before .before in
+    simp (c .unpacked .ensures, c .before .scanned .ensures, c .before .before .raised-or .ensures, c .before .before .before .raises .ensures, c .before .before .before .before .configured .ensures, c .before .before .before .before .before .joined .ensures, c .before .before .before .before .before .before .packed .ensures)
+    (scanned-packed (s .args .self) (s .args .ports) (s .args .a) (s .args .b) (s .args .c) (s .args .d) (registers s) (closed s))
 
 pub scanned-spec : {M : Type 1} → statement M
 scanned-spec =
     tie.close
     (tie.spec
-    closed-of-requires
-    closed-of-requires-2
-    closed-of-requires-3
-    closed-of-requires-4
+    packed-requires
+    joined-requires
+    configured-requires
     raises-requires
-    raises-requires-2
-    raises-requires-3
-    raises-requires-4
     raised-or-requires
     scanned-requires
-    scanned-requires-2
-    scanned-requires-3
-    scanned-requires-4
+    unpacked-requires
     returns)

@@ -1,7 +1,7 @@
--- `keys::Group::raises` meets its contract. Assumes nothing.
+-- `keys::Packed::raises` meets its contract. Assumes nothing.
 use borrow.Author.Needs.{needs}
-use Rattle.keys.proofs.Group.raises.Statement.{statement}
-use Rattle.keys.proofs.Group.raises.Tie as tie
+use Rattle.keys.proofs.Packed.raises.Statement.{statement}
+use Rattle.keys.proofs.Packed.raises.Tie as tie
 
 newly-requires : tie.Need-newly-requires
 newly-requires c κs = search needs

@@ -1,7 +1,7 @@
--- `keys::Group::scanned` meets its contract. Assumes nothing.
+-- `keys::Packed::scanned` meets its contract. Assumes nothing.
 use borrow.Author.Needs.{needs}
-use Rattle.keys.proofs.Group.scanned.Statement.{statement}
-use Rattle.keys.proofs.Group.scanned.Tie as tie
+use Rattle.keys.proofs.Packed.scanned.Statement.{statement}
+use Rattle.keys.proofs.Packed.scanned.Tie as tie
 
 newly-requires : tie.Need-newly-requires
 newly-requires c κs = search needs

@@ -2,9 +2,8 @@
 -- two of its bytes are read and stored where they lie, and its shift word is stored; else the record is copied out, `taken` is called and its result stored.
 -- Assumes nothing.
 use native.Mathlib.Omega.{arith}
-use Prim.Native.Nat.{zero, suc}
 use lib.Dec.{T as Holds}
-use mir.Syntax.{w16, Ty, tyUnit, Body, skip, seq, assign, block, loop, cond, switch, exit, return, call, Local, local}
+use mir.Syntax.{w16}
 use prog.Wp.{next}
 use types.Kit.{Item, Post, post, prop, runs, Seq}
 use Prim.Native.Nat.{_/_, _%_}
@@ -34,6 +33,7 @@ use Rattle.pass.proofs.in_room as room′
 use Rattle.pass.proofs.in_room.Symbol as room-def
 use Rattle.pass.proofs.in_room.Met as room-thm
 use Rattle.lent.proofs.Records.{size, byte, half, device, planes-of, is-stored}
+use Rattle.lent.proofs.Parts.{part, rest, envOf, typeOf}
 use Rattle.lent.proofs.Places.{long, at-most, look-byte, store-byte, meets}
 use Rattle.high_words.specs.HighWords.{isHigh, digitOf, newP0, newP1, newShift, highTaken}
 use Rattle.high_words.proofs.HighLaws.{high-taken}
@@ -67,78 +67,6 @@ S = half .row
 abbrev stayed : Stays (take-words.ended .signature .params) (take-words.ended .kept)
 stayed = (stay-slice (0 ∷ []) tt (plain (λ _. R)), (stay-dropped (shrSliceOf (1 ∷ []) tt (plain (λ _. S))) yes, tt))
 
--- parts of the code
-abbrev headOf : Body → Body
-headOf skip = skip
-headOf (seq a r) = a
-headOf (assign p v) = skip
-headOf (block a) = skip
-headOf (loop a) = skip
-headOf (cond c a r) = skip
-headOf (switch c s) = skip
-headOf (exit n) = skip
-headOf return = skip
-headOf (call f xs p) = skip
-
-abbrev restOf : Body → Body
-restOf skip = skip
-restOf (seq a r) = r
-restOf (assign p v) = skip
-restOf (block a) = skip
-restOf (loop a) = skip
-restOf (cond c a r) = skip
-restOf (switch c s) = skip
-restOf (exit n) = skip
-restOf return = skip
-restOf (call f xs p) = skip
-
-abbrev blockOf : Body → Body
-blockOf skip = skip
-blockOf (seq a r) = skip
-blockOf (assign p v) = skip
-blockOf (block a) = a
-blockOf (loop a) = skip
-blockOf (cond c a r) = skip
-blockOf (switch c s) = skip
-blockOf (exit n) = skip
-blockOf return = skip
-blockOf (call f xs p) = skip
-
-abbrev loopOf : Body → Body
-loopOf skip = skip
-loopOf (seq a r) = skip
-loopOf (assign p v) = skip
-loopOf (block a) = skip
-loopOf (loop a) = a
-loopOf (cond c a r) = skip
-loopOf (switch c s) = skip
-loopOf (exit n) = skip
-loopOf return = skip
-loopOf (call f xs p) = skip
-
-abbrev thenOf : Body → Body
-thenOf skip = skip
-thenOf (seq a r) = skip
-thenOf (assign p v) = skip
-thenOf (block a) = skip
-thenOf (loop a) = skip
-thenOf (cond c a r) = a
-thenOf (switch c s) = skip
-thenOf (exit n) = skip
-thenOf return = skip
-thenOf (call f xs p) = skip
-
-abbrev envOf : List Local → List ℕ → List (Ty × ℕ)
-envOf [] bs = []
-envOf (local τ h ∷ ls) [] = []
-envOf (local τ h ∷ ls) (b ∷ bs) = (τ, b) ∷ envOf ls bs
-
-abbrev typeOf : ℕ → List Local → Ty
-typeOf zero [] = tyUnit
-typeOf (suc k) [] = tyUnit
-typeOf zero (local τ h ∷ ls) = τ
-typeOf (suc k) (local τ h ∷ ls) = typeOf k ls
-
 module _ {M : Type 1} (𝓤 : URA M) (H : Heap 𝓤) (A : Atoms 𝓤) (W : Given 𝓤 H A) (mem : Memory → SProp 𝓤) (run : Routine → Fun 𝓤) (κ κ₁ : Lft) (q q₁ : Share) (b o : ℕ) (γ : GName) (ys : List Device) (b₁ o₁ : ℕ) (γ₁ : GName) (ws : List ℕ) where
   abbrev n : ℕ
   n = length ys
@@ -167,7 +95,7 @@ module _ {M : Type 1} (𝓤 : URA M) (H : Heap 𝓤) (A : Atoms 𝓤) (W : Given
   branch : {K : Type 0} → K → (𝓣 : Tables 𝓤 H) → Triple 𝓤 (𝓣 .C at-def.name) (tripleOf 𝓤 H A at′.signature (at′.spec 𝓤 H A mem run)) → Triple 𝓤 (𝓣 .C p0-def.name) (tripleOf 𝓤 H A p0′.signature (p0′.spec 𝓤 H A mem run)) → Triple 𝓤 (𝓣 .C p1-def.name) (tripleOf 𝓤 H A p1′.signature (p1′.spec 𝓤 H A mem run)) → Triple 𝓤 (𝓣 .C shift-def.name) (tripleOf 𝓤 H A shift′.signature (shift′.spec 𝓤 H A mem run))
       → Room R n → (l0 l1 l2 l3 l4 l5 l6 l7 l8 l9 l10 l11 l12 l13 l14 l15 l16 l17 l18 l19 l20 l21 l22 l23 l24 l25 l26 l27 l28 l29 l30 l31 l32 l33 l34 l35 l36 l37 i : ℕ) → i < n → i < length (zs i) → (v : ℕ) → set (zs i) i (taken (getD (zs i) i powerUp) v) ≡ zs (i + 1) → Is S v (half .val v ∷ [])
       → (Θ : List (Item 𝓤)) (p : Post 𝓤 H) → Seq K W (‵ (row R fullShare (zs (i + 1)) b o) ∷ ‵ (fat fullShare (tyInt w64) l4 0 (vint w64 i)) ∷ ‵ (fat fullShare (half .ty) l5 0 (half .val v)) ∷ ‵ (froom (tyInt w64) l6 0) ∷ ‵ (froom (byte .ty) l7 0) ∷ ‵ (froom (byte .ty) l8 0) ∷ ‵ (froom (tyInt w64) l16 0) ∷ ‵ (froom tyPtr l17 0) ∷ ‵ (froom tyPtr l18 0) ∷ ‵ (froom tyPtr l19 0) ∷ ‵ (froom (byte .ty) l20 0) ∷ ‵ (froom tyPtr l21 0) ∷ ‵ (froom tyPtr l22 0) ∷ ‵ (froom tyPtr l23 0) ∷ ‵ (froom tyPtr l24 0) ∷ ‵ (froom tyPtr l25 0) ∷ ‵ (froom tyPtr l26 0) ∷ ‵ (froom tyPtr l27 0) ∷ ‵ (froom tyPtr l28 0) ∷ ‵ (froom tyPtr l29 0) ∷ ‵ (froom (half .ty) l30 0) ∷ ‵ (froom tyPtr l31 0) ∷ ‵ (fat fullShare (typeOf 1 (code.function .locals)) l1 0 (sliceVal (b, o) n)) ∷ Θ) (prop (post 𝓤 H p next)) → Holds (isHigh v)
-      → Seq K W (‵ (row R fullShare (zs i) b o) ∷ ‵ (fat fullShare (tyInt w64) l4 0 (vint w64 i)) ∷ ‵ (fat fullShare (half .ty) l5 0 (half .val v)) ∷ ‵ (froom (tyInt w64) l6 0) ∷ ‵ (froom (byte .ty) l7 0) ∷ ‵ (froom (byte .ty) l8 0) ∷ ‵ (froom (tyInt w64) l16 0) ∷ ‵ (froom tyPtr l17 0) ∷ ‵ (froom tyPtr l18 0) ∷ ‵ (froom tyPtr l19 0) ∷ ‵ (froom (byte .ty) l20 0) ∷ ‵ (froom tyPtr l21 0) ∷ ‵ (froom tyPtr l22 0) ∷ ‵ (froom tyPtr l23 0) ∷ ‵ (froom tyPtr l24 0) ∷ ‵ (froom tyPtr l25 0) ∷ ‵ (froom tyPtr l26 0) ∷ ‵ (froom tyPtr l27 0) ∷ ‵ (froom tyPtr l28 0) ∷ ‵ (froom tyPtr l29 0) ∷ ‵ (froom (half .ty) l30 0) ∷ ‵ (froom tyPtr l31 0) ∷ ‵ (fat fullShare (typeOf 1 (code.function .locals)) l1 0 (sliceVal (b, o) n)) ∷ Θ) (runs (𝓣 .C) (𝓣 .Λ) (envOf (code.function .locals) (l0 ∷ l1 ∷ l2 ∷ l3 ∷ l4 ∷ l5 ∷ l6 ∷ l7 ∷ l8 ∷ l9 ∷ l10 ∷ l11 ∷ l12 ∷ l13 ∷ l14 ∷ l15 ∷ l16 ∷ l17 ∷ l18 ∷ l19 ∷ l20 ∷ l21 ∷ l22 ∷ l23 ∷ l24 ∷ l25 ∷ l26 ∷ l27 ∷ l28 ∷ l29 ∷ l30 ∷ l31 ∷ l32 ∷ l33 ∷ l34 ∷ l35 ∷ l36 ∷ l37 ∷ [])) (thenOf (headOf (restOf (restOf (restOf (restOf (restOf (restOf (restOf (loopOf (blockOf (headOf (restOf (restOf (restOf (restOf (code.function .body))))))))))))))))) p)
+      → Seq K W (‵ (row R fullShare (zs i) b o) ∷ ‵ (fat fullShare (tyInt w64) l4 0 (vint w64 i)) ∷ ‵ (fat fullShare (half .ty) l5 0 (half .val v)) ∷ ‵ (froom (tyInt w64) l6 0) ∷ ‵ (froom (byte .ty) l7 0) ∷ ‵ (froom (byte .ty) l8 0) ∷ ‵ (froom (tyInt w64) l16 0) ∷ ‵ (froom tyPtr l17 0) ∷ ‵ (froom tyPtr l18 0) ∷ ‵ (froom tyPtr l19 0) ∷ ‵ (froom (byte .ty) l20 0) ∷ ‵ (froom tyPtr l21 0) ∷ ‵ (froom tyPtr l22 0) ∷ ‵ (froom tyPtr l23 0) ∷ ‵ (froom tyPtr l24 0) ∷ ‵ (froom tyPtr l25 0) ∷ ‵ (froom tyPtr l26 0) ∷ ‵ (froom tyPtr l27 0) ∷ ‵ (froom tyPtr l28 0) ∷ ‵ (froom tyPtr l29 0) ∷ ‵ (froom (half .ty) l30 0) ∷ ‵ (froom tyPtr l31 0) ∷ ‵ (fat fullShare (typeOf 1 (code.function .locals)) l1 0 (sliceVal (b, o) n)) ∷ Θ) (runs (𝓣 .C) (𝓣 .Λ) (envOf (code.function .locals) (l0 ∷ l1 ∷ l2 ∷ l3 ∷ l4 ∷ l5 ∷ l6 ∷ l7 ∷ l8 ∷ l9 ∷ l10 ∷ l11 ∷ l12 ∷ l13 ∷ l14 ∷ l15 ∷ l16 ∷ l17 ∷ l18 ∷ l19 ∷ l20 ∷ l21 ∷ l22 ∷ l23 ∷ l24 ∷ l25 ∷ l26 ∷ l27 ∷ l28 ∷ l29 ∷ l30 ∷ l31 ∷ l32 ∷ l33 ∷ l34 ∷ l35 ∷ l36 ∷ l37 ∷ [])) (part (part (rest (rest (rest (rest (rest (rest (rest (part (part (part (rest (rest (rest (rest (code.function .body))))))))))))))))) p)
   branch tk 𝓣 known-at known-p0 known-p1 known-shift room l0 l1 l2 l3 l4 l5 l6 l7 l8 l9 l10 l11 l12 l13 l14 l15 l16 l17 l18 l19 l20 l21 l22 l23 l24 l25 l26 l27 l28 l29 l30 l31 l32 l33 l34 l35 l36 l37 i below l′ v step is-v Θ p k yes =
       let d : Device = getD (zs i) i powerUp in
       let high : isHigh v ≡ true = lt-ltb 1 (v / 4096 % 8) (ltb→lt 1 (v / 4096 % 8) yes) in

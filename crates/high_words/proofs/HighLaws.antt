@@ -1,20 +1,19 @@
 -- A word with an address of 0x20 or above, taken, leaves what `highTaken` says.
 -- Assumes nothing.
-use Prim.Native.Nat.{ℕ, _+_, _*_, _/_, _%_, _^_, _≤_, _<_}
+use Prim.Native.Nat.{ℕ, _/_, _%_, _^_, _≤_, _<_}
 use native.Mathlib.Decide.{decLt, ℕ-discrete}
 use native.Mathlib.Omega.{arith}
-use mathlib.Core.Bool.{Bool, true, false}
-use mathlib.Core.Path.{_≡_, refl, sym, ap, _∙_}
+use mathlib.Core.Bool.{true, false}
+use mathlib.Core.Path.{_≡_}
 use lib.Dec.{eqb, ltb}
 use lib.Seq.{set-getD}
-use borrow.Author.Tests.{ltb-true, ltb-false, lt-ltb, le-ltb, eq-eqb, ne-eqb, eqb-true, eqb-false}
-use Rattle.words.specs.Choice.{if, bit}
-use Rattle.words.specs.Words.{highRegister, alikeAt, writtenAt, readAt, wordOf}
-use Rattle.words.specs.declared.Word.{Word}
+use borrow.Author.Tests.{ltb-true, lt-ltb, le-ltb, eq-eqb, ne-eqb}
+use Rattle.words.specs.Choice.{bit}
+use Rattle.words.specs.Words.{highRegister, alikeAt, wordOf}
 use Rattle.words.specs.declared.Word.the-variants.{Write, Read}
 use Rattle.device.specs.Words.{taken}
 use Rattle.device.specs.declared.Device.{Device}
-use Rattle.high_words.specs.HighWords.{isHigh, digitOf, newP0, newP1, newShift, newPlanes, highTaken}
+use Rattle.high_words.specs.HighWords.{isHigh, highTaken}
 
 module _ (w : ℕ) (fits : w < 65536) (high : isHigh w ≡ true) where
   two : 2 ≤ w / 4096 % 8

@@ -2,7 +2,6 @@
 -- Assumes nothing.
 use Prim.Native.Nat.{ℕ, _<_, _^_}
 use mathlib.Core.Path.{refl}
-use mathlib.Core.List.{List}
 use lib.ListN.{set}
 use mir.Val.{vstruct, ofList}
 use denote.Array.{Array}

@@ -21,7 +21,7 @@ use Rattle.device.specs.declared.Device.{Device}
 use Rattle.calls.specs.Calls.{Step, Question, give, ask}
 use Rattle.calls.specs.Numbers.{chainNumber, driverNumber, stepNumber, questionNumber, soundNumber, allSound, firstOf}
 use Rattle.calls.specs.Served.{stepped, answerTo, refusedTo}
-use Rattle.calls.specs.Outcome.{number, after, reply, outcome, Outcome}
+use Rattle.calls.specs.Outcome.{number, after, reply, outcome}
 use Rattle.calls.proofs.Accepted.{first-zero, driver-there}
 use Rattle.pass.specs.Found.{byArguments, toPass, toPassIn, inRoom, found, callNumber}
 

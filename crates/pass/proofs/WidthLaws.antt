@@ -14,7 +14,6 @@ use lib.Dec.{ltb}
 use lib.ListN.{length, getD, take}
 use lib.Seq.{take-suc}
 use borrow.Author.Tests.{lt-ltb, le-ltb}
-use Rattle.words.specs.Choice.{if}
 use Rattle.device.specs.PowerUp.{powerUp}
 use Rattle.device.specs.Sound.{soundOf}
 use Rattle.device.specs.declared.Device.{Device}

@@ -1,14 +1,10 @@
 -- `chain::max6954_access` meets its contract: a walk of its MIR, by hand. The words are a local array, kept as a row of elements: it is lent to `shift_words` and to `wire::shift`, each for a lifetime of the call's own, and shared with `take_words`.
 -- Assumes nothing.
-use native.Mathlib.Omega.{arith}
-use lib.Dec.{eqb, T as Holds, eqb→eq}
-use lib.ListN.{take, drop as dropped, replicate, length-set, length-append}
-use mathlib.Core.Bool.{Bool, true, false, not}
-use mathlib.Core.List.{_++_}
+use lib.Dec.{T as Holds}
+use lib.ListN.{take, replicate}
 use mir.Syntax.{w16, tyUnit, tyRef, erased, mut, imm}
 use mir.Val.{Val, vunit, WT, hasTy}
-use contract.Fact.{factI}
-use base.Fml.{flent, fsep}
+use base.Fml.{flent}
 use types.Kit.{Item, put, some, later, use3, await, pick, feqI}
 use types.Part.{rep}
 use types.SemTy.{Arr, cells}
@@ -23,7 +19,7 @@ use denote.Signature.{shrSliceOf}
 use denote.Slice.{sliceTy}
 use denote.Steps.{peeks, only}
 use denote.Triple.Walked.{stay-dropped, goes-dropped}
-use Rattle.lent.proofs.Logic.{_≡_, refl, sym, ap, _∙_, subst, ℕ, zero-le, _+_, _-_, _<_, _≤_, _^_, le-antisymm, List, [], _∷_, lit<, ltb→lt, nltb→le, length, getD, set, URA, fullShare, named, w8, w64, tyInt, tyPtr, tyBool, vint, vptr, SProp, emp, id⊢, via, fst∗, Lft, GName, Share, ftrue, fat, froom, flft, Memory, Routine, Heap, Tables, Atoms, Fun, givenOf, tables, tablesOf, Given, ‵, _⊛_, _$_, _∵_, !, qed, move, keep, drop, split, join, rewrite, fsplit, fjoin, suffices, frame, done, whole, sub, look-in, look, look-raw, init, store, store-raw, forget, stop, hop, fld, from, load, lit, of-opd, bin, and-then, no-more, assigns, assigns-last, land, returns, enter, alloc1, alloc0, params1, pass1, pass0, free0, fmOf, RattleType, owns, Is, shows, RefT, pureI, sliceVal, MutSlice, ShrSlice, Room, at-slice, slice-vals, mut-slice-tells, shr-slice-tells, row, place-is, elem-out, elem-back, elem-put, opens-slice, closes-slice, looks-slice, shuts-slice, plain, nothing, owned, Bound, tripleOf, Triple, cited, says, Stays, stay-slice, goes-slice, ends-at, yes, scaled-fits, raw, use1, use2, feqL, agg, addr, finally, onEntry, gave-slice, goes-gave-slice}
+use Rattle.lent.proofs.Logic.{_≡_, refl, sym, ap, _∙_, subst, ℕ, List, [], _∷_, lit<, length, URA, fullShare, named, SProp, emp, id⊢, via, fst∗, Lft, GName, Share, ftrue, fat, flft, Memory, Routine, Heap, Tables, Atoms, Fun, givenOf, tables, tablesOf, Given, ‵, _⊛_, _$_, _∵_, !, qed, move, drop, split, join, rewrite, fsplit, fjoin, suffices, frame, done, whole, sub, look-in, look, init, store, forget, stop, hop, fld, from, load, lit, of-opd, bin, and-then, no-more, assigns, land, returns, enter, alloc1, alloc0, params1, pass1, pass0, free0, fmOf, RattleType, owns, Is, shows, RefT, sliceVal, MutSlice, ShrSlice, Room, slice-vals, mut-slice-tells, shr-slice-tells, row, plain, nothing, owned, Bound, tripleOf, Triple, cited, says, Stays, ends-at, yes, raw, use1, use2, feqL, agg, addr, finally, onEntry, gave-slice, goes-gave-slice}
 use Rattle.device.specs.declared.Device.{Device}
 use Rattle.calls.specs.Calls.{access as accessCall}
 use Rattle.calls.specs.Numbers.{allSound}
@@ -36,7 +32,7 @@ use Rattle.pass.specs.Found.{accessByArguments, toPassIn, inRoom, found}
 use Rattle.pass.specs.OneByOne.{wordsTo, takenTo}
 use Rattle.pass.proofs.FoundLaws.{pass-in-le}
 use Rattle.pass.proofs.StepLaws.{length-words}
-use Rattle.pass.proofs.AccessLaws.{access-refused, access-served, length-next}
+use Rattle.pass.proofs.AccessLaws.{access-refused, access-served}
 use Rattle.pass.proofs.access_by_arguments as early′
 use Rattle.pass.proofs.access_by_arguments.Symbol as early-def
 use Rattle.pass.proofs.access_by_arguments.Met as early-thm

@@ -1,5 +1,6 @@
 -- The access by what its passes leave: the number found, the words copied, the words taken.
 --     access-number, access-refused, access-served     its outcome
+--     access-whole                                     the same where all the records are passed at once
 --     length-next                                      how many words the wire leaves
 -- Assumes nothing.
 use Prim.Native.Nat.{ℕ, _≤_, _<_}
@@ -125,3 +126,10 @@ module _ (ds : List Device) (c : ℕ) (sent room : List ℕ) where
         let all : takenTo ds next (inRoom n (length next)) ≡ allTaken ds (shifted (shiftWords ds) sent c) = ap (λ (k : ℕ). takenTo ds next k) room-is ∙ rw (drop-length, append-nil) each in
         let back : roomAfter (wordsTo ds zeros m) n c sent room ≡ answer (shiftWords ds) sent c ++ drop (bytesFor c) room = rw (wire-fits, words-are) in
         rw (all, back, ← access-number, z)
+
+    -- the same where all the records are passed, and all take a word
+    pub access-whole : record { number = 0; records = takenTo ds (wordsAfter (wordsTo ds zeros n) n c sent room) n; back = roomAfter (wordsTo ds zeros n) n c sent room } ≡ outcome (access c sent room) ds
+    access-whole =
+        let long : n ≤ length next = omega (arith, length-next, short first-is-zero) in
+        let room-is : inRoom n (length next) ≡ n = ap (λ (b : Bool). if b n 0) (le-leb n (length next) long) in
+        rw (z, room-is, all-passed first-is-zero) at access-served

@@ -1,6 +1,6 @@
 -- The number as it is found is the number of the call, and the outcome of a call that names a driver by it.
 --     found-last                                   a number found after others
---     pass-below, pass-in-below, pass-in-le, in-room-below, in-room-le     a record that is passed is one of the chain
+--     pass-below, pass-le, pass-in-below, pass-in-le, in-room-below, in-room-le     a record that is passed is one of the chain
 --     call-found                                   the number found is `callNumber`
 --     in-range, own-zero                           what a number of 0 tells of the driver and the argument
 --     give-served, give-refused, ask-served, ask-refused       the outcome
@@ -50,6 +50,13 @@ pass-below first n i = go (eqb first 0)
     go : (b : Bool) → i < if b n 0 → i < n
     go true l = l
     go false l = absurd (omega (arith, l))
+
+pub pass-le : (first n : ℕ) → toPass first n ≤ n
+pass-le first n = go (eqb first 0)
+  where
+    go : (b : Bool) → if b n 0 ≤ n
+    go true = omega arith
+    go false = omega arith
 
 pub pass-in-below : (first n w i : ℕ) → i < toPassIn first n w → (i < n) × (i < w)
 pass-in-below first n w i = go (eqb first 0) (leb n w) refl

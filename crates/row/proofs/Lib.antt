@@ -1,2 +1,2 @@
-pub mod Elements
+pub mod Typed
 pub mod RowLaws

@@ -1,42 +1,172 @@
 -- The calls by value do on a row what they do on a lent chain of its records.
+--     length-short, length-long                    how many records there are
+--     number-found, call-found, access-found       the number
+--     in-row                                       a driver that is named is one of the sixteen
+--     give-refused, give-done                      a call that gives a driver something
+--     show-refused, show-done                      what a cathode shows
+--     access-refused, access-done                  an access
 -- Assumes nothing.
-use Prim.Native.Nat.{ℕ, _≤_, _<_}
+use Prim.Native.Nat.{ℕ, zero, suc, _-_, _≤_, _<_}
 use native.Mathlib.Omega.{arith}
-use mathlib.Core.List.{List}
-use mathlib.Core.Path.{_≡_}
-use lib.ListN.{length}
-use Rattle.calls.specs.Calls.{Step, Question, access, give, ask}
-use Rattle.survey.specs.Survey.{surveyOf}
-use Rattle.survey.specs.Change.{applied}
-use Rattle.survey.specs.Calls.{given, accessed, accessRoom, askedNumber, asked}
-use Rattle.survey.specs.declared.Change.{Change}
-use Rattle.survey.proofs.CallLaws.{give-number, give-after, ask-number, ask-reply, access-number, access-after, access-reply}
-use Rattle.row.specs.Row.{numberOn, replyOn, doneOn}
+use mathlib.Core.Bool.{Bool, true, false}
+use mathlib.Core.List.{List, [], _∷_, _++_, append-nil}
+use mathlib.Core.Path.{_≡_, refl, sym, ap, _∙_}
+use lib.Dec.{eqb}
+use lib.ListN.{length, getD, take, drop, set, replicate, take-append-drop, length-append, List·getD-append}
+use lib.Seq.{length-take-le, take-all, set-append-left, drop-length}
+use borrow.Author.Tests.{ne-eqb}
+use Rattle.words.specs.Choice.{if}
+use Rattle.words.specs.Lists.{tabulate}
+use Rattle.words.proofs.Lists.{tabulate-ext}
+use Rattle.wire.specs.Shift.{sizeNumber, wordsAfter, roomAfter}
+use Rattle.device.specs.PowerUp.{powerUp}
+use Rattle.device.specs.Words.{taken}
+use Rattle.device.specs.declared.Device.{Device}
+use Rattle.display.specs.Pins.{segmentsOf}
+use Rattle.display.specs.declared.SegmentAnswer.{SegmentAnswer}
+use Rattle.calls.specs.Calls.{Step, Call, access, give, ask, segments}
+use Rattle.calls.specs.Numbers.{chainNumber, driverNumber, stepNumber, questionNumber, soundNumber, allSound}
+use Rattle.calls.specs.Served.{stepped, refusedBack}
+use Rattle.calls.specs.Outcome.{number, after, reply, Outcome}
+use Rattle.calls.proofs.Accepted.{after-zero, reply-zero}
+use Rattle.pass.specs.Found.{byArguments, accessByArguments, toPass, found, callNumber}
+use Rattle.pass.specs.OneByOne.{wordsTo, takenTo}
+use Rattle.pass.proofs.FoundLaws.{found-last, in-range, own-zero}
+use Rattle.pass.proofs.AccessLaws.{access-number, access-whole}
+use Rattle.row.specs.Row.{records, numberOn, replyOn, doneOn}
 use Rattle.row.specs.declared.Row.{Row}
-use Rattle.row.specs.declared.Done.{Done}
 
--- a row after a change
-abbrev pub left : Row → Change → Done
-left r c = record { number = c .number; row = record { n = r .n; devices = applied 16 (r .devices) c } }
+-- ---- the first n of a list, and the others
+module _ {A : Type 0} where
+  part-take : (n : ℕ) (xs : List A) → take (length (take n xs)) xs ≡ take n xs
+  part-take zero xs = refl
+  part-take (suc n) [] = refl
+  part-take (suc n) (x ∷ xs) = ap (λ l. x ∷ l) (part-take n xs)
 
+  part-le : (n : ℕ) (xs : List A) → length (take n xs) ≤ length xs
+  part-le n xs = omega (arith, length-append (take n xs) (drop n xs), ap length (take-append-drop n xs))
+
+  part-drop : (n : ℕ) (xs : List A) → drop (length (take n xs)) xs ≡ drop n xs
+  part-drop zero xs = refl
+  part-drop (suc n) [] = refl
+  part-drop (suc n) (x ∷ xs) = part-drop n xs
+
+  -- an element of the first n, and the same replaced
+  part-get : (n : ℕ) (xs : List A) (i : ℕ) (z : A) → i < length (take n xs) → getD xs i z ≡ getD (take n xs) i z
+  part-get n xs i z h = ap (λ l. getD l i z) (sym (take-append-drop n xs)) ∙ List·getD-append (take n xs) (drop n xs) z i h
+
+  part-set : (n : ℕ) (xs : List A) (i : ℕ) (f : A → A) (z : A) → i < length (take n xs)
+      → set xs i (f (getD xs i z)) ≡ set (take n xs) i (f (getD (take n xs) i z)) ++ drop n xs
+  part-set n xs i f z h =
+      rw (part-get n xs i z h) (ap (λ l. set l i (f (getD (take n xs) i z))) (sym (take-append-drop n xs)) ∙ set-append-left (take n xs) (drop n xs) i _ h)
+
+-- ---- how many records there are
 module _ (r : Row) (sixteen : length (r .devices) ≡ 16) where
-  long : r .n < 17 → r .n ≤ length (r .devices)
-  long h = omega arith
+  pub length-short : r .n < 16 → r .n ≡ length (records r)
+  length-short h = sym (length-take-le (r .n) (r .devices) (omega arith))
 
-  wide : r .n < 17 → r .n ≤ 16
-  wide h = omega arith
+  pub length-long : 16 ≤ r .n → 16 ≡ length (records r)
+  length-long h = rw (take-all (r .n) (r .devices) (omega arith)) (sym sixteen)
 
-  pub give-done : (j : ℕ) (st : Step) → left r (given (surveyOf (r .n) (r .devices) j) st) ≡ doneOn r (give j st)
-  give-done j st = rw (give-after (r .n) (r .devices) long 16 wide j st, give-number (r .n) (r .devices) long j st)
+  -- a driver that is named is one of the sixteen
+  pub in-row : (j own k : ℕ) → k ≡ callNumber (records r) j own → k ≡ 0 → (1 ≤ j) × (j ≤ 16)
+  in-row j own k e z =
+      let h = in-range (records r) j own (sym e ∙ z) in
+      (h .0, omega (arith, h .1, part-le (r .n) (r .devices)))
 
-  pub access-done : (c : ℕ) (sent room : List ℕ) → left r (accessed (surveyOf (r .n) (r .devices) 0) c sent room) ≡ doneOn r (access c sent room)
-  access-done c sent room = rw (access-after (r .n) (r .devices) long 0 c sent room 16 wide, access-number (r .n) (r .devices) long 0 c sent room)
+-- ---- the number of a call, once the records are passed
+module _ (r : Row) where
+  abbrev ds : List Device
+  ds = records r
 
-  pub access-given : (c : ℕ) (sent room : List ℕ) → accessRoom (surveyOf (r .n) (r .devices) 0) c sent room ≡ replyOn r (access c sent room)
-  access-given c sent room = access-reply (r .n) (r .devices) long 0 c sent room
+  pub number-found : (first w : ℕ) (sound : Bool) → w ≡ toPass first (length ds) → sound ≡ allSound (take w (r .devices)) → found first sound ≡ found first (allSound ds)
+  number-found first w sound p e = go (eqb first 0) (rw p at e)
+    where
+      go : (b : Bool) → sound ≡ allSound (take (if b (length ds) 0) (r .devices)) → if b (soundNumber sound) first ≡ if b (soundNumber (allSound ds)) first
+      go true e = ap soundNumber (rw (part-take (r .n) (r .devices)) at e)
+      go false e = refl
 
-  pub ask-on : (j : ℕ) (q : Question) → askedNumber (surveyOf (r .n) (r .devices) j) q ≡ numberOn r (ask j q)
-  ask-on j q = ask-number (r .n) (r .devices) long j q
+  pub call-found : (j own : ℕ) → found (byArguments (length ds) j own) (allSound ds) ≡ callNumber ds j own
+  call-found j own = found-last (chainNumber (length ds) ∷ driverNumber (length ds) j ∷ own ∷ []) (soundNumber (allSound ds))
 
-  pub ask-given : (j : ℕ) (q : Question) → asked (surveyOf (r .n) (r .devices) j) q ≡ replyOn r (ask j q)
-  ask-given j q = ask-reply (r .n) (r .devices) long j q
+  pub access-found : (c : ℕ) (sent room : List ℕ) → found (accessByArguments (length ds) c (length sent) (length room)) (allSound ds) ≡ numberOn r (access c sent room)
+  unfolding number
+  access-found c sent room = found-last (chainNumber (length ds) ∷ sizeNumber c (length sent) (length room) ∷ []) (soundNumber (allSound ds))
+
+-- ---- a refused call of any kind
+module _ (r : Row) (q : Call) (k : ℕ) (e : k ≡ numberOn r q) (z : k ≡ 0 → ⊥) where
+  refused-done : record { number = k; row = r } ≡ doneOn r q
+  unfolding after
+  refused-done = rw (← e, ne-eqb k 0 z, take-append-drop (r .n) (r .devices))
+
+  refused-reply : refusedBack q ≡ replyOn r q
+  unfolding reply
+  refused-reply = rw (← e, ne-eqb k 0 z)
+
+-- ---- a call that gives a driver something
+module _ (r : Row) (j : ℕ) (st : Step) (own k : ℕ) (o : own ≡ stepNumber st) (e : k ≡ callNumber (records r) j own) where
+  give-number : k ≡ numberOn r (give j st)
+  unfolding number
+  give-number = e ∙ rw o
+
+  pub give-refused : (k ≡ 0 → ⊥) → record { number = k; row = r } ≡ doneOn r (give j st)
+  give-refused z = refused-done r (give j st) k give-number z
+
+  pub give-done : k ≡ 0 → record { number = 0; row = record { n = r .n; devices = set (r .devices) (j - 1) (stepped st (getD (r .devices) (j - 1) powerUp)) } } ≡ doneOn r (give j st)
+  give-done z =
+      let t : numberOn r (give j st) ≡ 0 = sym give-number ∙ z in
+      let h = in-range (records r) j own (sym e ∙ z) in
+      rw (after-zero (give j st) (records r) t, t, part-set (r .n) (r .devices) (j - 1) (stepped st) powerUp (omega (arith, h)))
+
+-- ---- what a cathode shows
+module _ (r : Row) (j d : ℕ) (font14 font16 : List ℕ) (own k : ℕ) (o : own ≡ questionNumber (segments d font14 font16)) (e : k ≡ callNumber (records r) j own) where
+  abbrev q : Call
+  q = ask j (segments d font14 font16)
+
+  abbrev answer : SegmentAnswer
+  answer = record { number = numberOn r q; pins = replyOn r q }
+
+  ask-number : k ≡ numberOn r q
+  unfolding number
+  ask-number = e ∙ rw o
+
+  pub show-refused : (k ≡ 0 → ⊥) → record { number = k; pins = replicate 19 0 } ≡ answer
+  unfolding tabulate
+  show-refused z = rw (← ask-number, ← refused-reply r q k ask-number z)
+
+  pub show-done : k ≡ 0 → segmentsOf (getD (r .devices) (j - 1) powerUp) d font14 font16 ≡ answer
+  show-done z =
+      let t : numberOn r q ≡ 0 = sym ask-number ∙ z in
+      let h = in-range (records r) j own (sym e ∙ z) in
+      let zero-own : questionNumber (segments d font14 font16) ≡ 0 = sym o ∙ own-zero (records r) j own (sym e ∙ z) in
+      let pins : replyOn r q ≡ segmentsOf (getD (r .devices) (j - 1) powerUp) d font14 font16 .pins =
+      reply-zero q (records r) t ∙ ap (λ x. segmentsOf x d font14 font16 .pins) (sym (part-get (r .n) (r .devices) (j - 1) powerUp (omega (arith, h)))) in
+      rw (pins, t) (ap (λ n. record { number = n; pins = segmentsOf (getD (r .devices) (j - 1) powerUp) d font14 font16 .pins }) zero-own)
+
+-- ---- an access
+module _ (r : Row) (c : ℕ) (sent room : List ℕ) (k : ℕ) (e : k ≡ numberOn r (access c sent room)) where
+  abbrev n : ℕ
+  n = length (records r)
+
+  abbrev words : List ℕ
+  words = wordsTo (r .devices) (replicate 16 0) n
+
+  pub access-refused : (k ≡ 0 → ⊥) → (record { number = k; row = r } ≡ doneOn r (access c sent room)) × (room ≡ replyOn r (access c sent room))
+  access-refused z = (refused-done r (access c sent room) k e z, refused-reply r (access c sent room) k e z)
+
+  -- the words, and the records that take them, among the sixteen
+  part-words : words ≡ wordsTo (records r) (replicate 16 0) n
+  part-words = rw (tabulate-ext n _ _ (λ i h. ap (λ (x : Device). x .shift) (part-get (r .n) (r .devices) i powerUp h)))
+
+  part-taken : (ws : List ℕ) → takenTo (r .devices) ws n ≡ takenTo (records r) ws n ++ drop (r .n) (r .devices)
+  part-taken ws =
+      rw (drop-length (records r), append-nil, part-drop (r .n) (r .devices), tabulate-ext n _ _ (λ i h. ap (λ (x : Device). taken x (getD ws i 0)) (part-get (r .n) (r .devices) i powerUp h)))
+
+  pub access-done : k ≡ 0
+      → (record { number = 0; row = record { n = r .n; devices = takenTo (r .devices) (wordsAfter words n c sent room) n } } ≡ doneOn r (access c sent room))
+      × (roomAfter words n c sent room ≡ replyOn r (access c sent room))
+  access-done z =
+      let whole = access-whole (records r) c sent room (access-number (records r) c sent room ∙ sym e ∙ z) in (
+        rw (part-taken, part-words) (ap (λ (o : Outcome). record { number = o .number; row = record { n = r .n; devices = o .records ++ drop (r .n) (r .devices) } }) whole),
+        rw part-words (ap (λ (o : Outcome). o .back) whole),
+      )

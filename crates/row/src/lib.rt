@@ -1,21 +1,19 @@
 // A chain of MAX6954 by value: the calls on a row of records.
+ghost use Prim.Native.Nat.{_-_, _≤_};
 ghost use mathlib.Core.Path.{_≡_};
-ghost use lib.ListN.{length};
-ghost use Rattle.calls.specs.Calls.{access as accessCall, give, ask, scan as scanStep, levels as levelsStep, clocks as clocksStep, plane as planeQuestion, segments as segmentsQuestion, brightness as brightnessQuestion, shown as shownQuestion, interrupt as interruptQuestion};
-ghost use Rattle.calls.specs.Served.{only};
-ghost use Rattle.survey.specs.Survey.{surveyOf};
-ghost use Rattle.survey.specs.Change.{applied};
-ghost use Rattle.row.specs.Row.{fresh, numberOn, replyOn, doneOn};
-use brightness::BrightnessAnswer;
+ghost use lib.ListN.{length, getD, set, take, replicate};
+ghost use Rattle.device.specs.PowerUp.{powerUp};
+ghost use Rattle.calls.specs.Calls.{access as accessCall, give, ask, scan as scanStep, levels as levelsStep, clocks as clocksStep, segments as segmentsQuestion};
+ghost use Rattle.calls.specs.Numbers.{allSound};
+ghost use Rattle.pass.specs.Widths.{fit};
+ghost use Rattle.pass.specs.Found.{found, callNumber};
+ghost use Rattle.pass.specs.OneByOne.{wordsTo, takenTo};
+ghost use Rattle.row.specs.Row.{fresh, records, numberOn, replyOn, doneOn};
 use device::Device;
 use display::SegmentAnswer;
-use survey::Change;
-use survey::InterruptAnswer;
-use survey::Seen;
-use survey::ShownAnswer;
-use survey::Survey;
+use pass::Widths;
 
-// A chain of n drivers: the first n of sixteen records. Calls on a row of none, or of more than 16, are refused with 1.
+// A chain of n drivers: the first n of sixteen records. A length above 16 counts as 16.
 pub struct Row {
     pub n: usize,
     pub devices: [Device; 16],
@@ -27,35 +25,45 @@ pub struct Done {
     pub row: Row,
 }
 
-// What a call needs to know of the first n of sixteen records.
-fn surveyed(devices: [Device; 16], n: usize, driver: usize) -> Survey
-    ensures { λ r. ⌜ (r ≡ surveyOf n devices driver) × (length devices ≡ 16) ⌝ }
+// What the first n of sixteen records tell of soundness.
+fn widths(devices: [Device; 16], n: usize) -> Widths
+    requires { ⌜ n ≤ 16 ⌝ }
+    ensures { λ r. ⌜ fit r ≡ allSound (take n devices) ⌝ }
 {
-    let m = lanes::counted(n);
-    let mut s = Seen::new();
+    let mut w = Widths::new();
     let mut i = 0;
-    while i < m {
+    while i < n {
         let d = devices[i];
-        s = s.with(d);
+        w = w.with(d);
         i += 1;
     }
-    let at = survey::place(driver, m);
-    if at < m {
-        let named = devices[at];
-        return Survey::new(n, driver, s, named);
-    }
-    Survey::unnamed(n, driver, s)
+    w
 }
 
-// Sixteen records after a change.
-fn changed(mut devices: [Device; 16], change: Change) -> [Device; 16]
-    ensures { λ r. ⌜ r ≡ applied 16 devices change ⌝ }
+// The shift words of the first n of sixteen records, then 0.
+fn shift_words(devices: [Device; 16], n: usize) -> [u16; 16]
+    requires { ⌜ n ≤ 16 ⌝ }
+    ensures { λ r. ⌜ r ≡ wordsTo devices (replicate 16 0) n ⌝ }
 {
-    let m = change.stop(16);
-    let mut i = change.start();
-    while i < m {
+    let mut words = [0; 16];
+    let mut i = 0;
+    while i < n {
         let d = devices[i];
-        devices[i] = change.next(i, d);
+        words[i] = d.shift;
+        i += 1;
+    }
+    words
+}
+
+// Sixteen records of which the first n took their words.
+fn all_taken(mut devices: [Device; 16], n: usize, words: [u16; 16]) -> [Device; 16]
+    requires { ⌜ n ≤ 16 ⌝ }
+    ensures { λ r. ⌜ r ≡ takenTo devices words n ⌝ }
+{
+    let mut i = 0;
+    while i < n {
+        let d = devices[i];
+        devices[i] = d.taken(words[i]);
         i += 1;
     }
     devices
@@ -73,25 +81,62 @@ impl Row {
         }
     }
 
-    // What a call needs to know of the chain.
-    fn survey(self, driver: usize) -> Survey
-        ensures { λ r. ⌜ (r ≡ surveyOf (self .n) (self .devices) driver) × (length (self .devices) ≡ 16) ⌝ }
+    // How many drivers there are, at most 16.
+    fn length(self) -> usize
+        ensures { λ r. ⌜ (r ≡ length (records self)) × (r ≤ 16) ⌝ }
     {
-        let devices = self.devices;
-        surveyed(devices, self.n, driver)
+        if self.n < 16 { self.n } else { 16 }
     }
 
-    // The row after a change.
-    fn after(self, change: Change) -> Done
-        ensures { λ r. ⌜ r ≡ record { number = change .number; row = record { n = self .n; devices = applied 16 (self .devices) change } } ⌝ }
+    // The number of a call, from that by its arguments.
+    fn found(self, first: u8) -> u8
+        ensures { λ r. ⌜ r ≡ found first (allSound (records self)) ⌝ }
     {
         let devices = self.devices;
-        let next = changed(devices, change);
+        let n = pass::to_pass(first, self.length());
+        let w = widths(devices, n);
+        pass::found(first, w)
+    }
+
+    // The number of a call that names a driver; own is that of what the driver is given or asked.
+    fn number(self, driver: usize, own: u8) -> u8
+        ensures { λ r. ⌜ r ≡ callNumber (records self) driver own ⌝ }
+    {
+        let first = pass::by_arguments(self.length(), driver, own);
+        self.found(first)
+    }
+
+    // The record of the driver named.
+    fn named(self, driver: usize) -> Device
+        requires { ⌜ (1 ≤ driver) × (driver ≤ 16) ⌝ }
+        ensures { λ r. ⌜ r ≡ getD (self .devices) (driver - 1) powerUp ⌝ }
+    {
+        let devices = self.devices;
+        devices[driver - 1]
+    }
+
+    // A call that is refused: nothing changes.
+    fn refused(self, number: u8) -> Done
+        ensures { λ r. ⌜ r ≡ record { number = number; row = self } ⌝ }
+    {
         Done {
-            number: change.number,
+            number: number,
+            row: self,
+        }
+    }
+
+    // A call that is served: a driver's record replaced.
+    fn served(self, driver: usize, new: Device) -> Done
+        requires { ⌜ (1 ≤ driver) × (driver ≤ 16) ⌝ }
+        ensures { λ r. ⌜ r ≡ record { number = 0; row = record { n = self .n; devices = set (self .devices) (driver - 1) new } } ⌝ }
+    {
+        let mut devices = self.devices;
+        devices[driver - 1] = new;
+        Done {
+            number: 0,
             row: Row {
                 n: self.n,
-                devices: next,
+                devices: devices,
             },
         }
     }
@@ -100,59 +145,59 @@ impl Row {
     pub fn scan(self, driver: usize, a: u8, b: u8, c: u8, d: u8) -> Done
         ensures { λ r. ⌜ r ≡ doneOn self (give driver (scanStep a b c d)) ⌝ }
     {
-        let s = self.survey(driver);
-        let change = s.scan(a, b, c, d);
-        self.after(change)
+        let number = self.number(driver, pass::scan_number(a, b, c, d));
+        if number != 0 {
+            return self.refused(number);
+        }
+        let old = self.named(driver);
+        self.served(driver, old.scanned(a, b, c, d))
     }
 
     // The pin levels of one driver.
     pub fn set_pins(self, driver: usize, levels: u32) -> Done
         ensures { λ r. ⌜ r ≡ doneOn self (give driver (levelsStep levels)) ⌝ }
     {
-        let s = self.survey(driver);
-        let change = s.set_pins(levels);
-        self.after(change)
+        let number = self.number(driver, pass::levels_number(levels));
+        if number != 0 {
+            return self.refused(number);
+        }
+        let old = self.named(driver);
+        self.served(driver, old.with_pins(levels))
     }
 
     // Master clocks given to one driver.
     pub fn add_clocks(self, driver: usize, clocks: u32) -> Done
         ensures { λ r. ⌜ r ≡ doneOn self (give driver (clocksStep clocks)) ⌝ }
     {
-        let s = self.survey(driver);
-        let change = s.add_clocks(clocks);
-        self.after(change)
+        let number = self.number(driver, pass::clocks_number(clocks));
+        if number != 0 {
+            return self.refused(number);
+        }
+        let old = self.named(driver);
+        self.served(driver, old.clocked(clocks))
     }
 
     // Clocks through the chain: the answer goes to the room, and every driver takes its word.
     pub fn access(self, clocks: usize, sent: &[u8], room: &mut [u8]) -> Done
         ensures { λ r. ⌜ (r ≡ doneOn self (accessCall clocks (now (sent .entry)) (now (room .entry)))) × (now (room .exit) ≡ replyOn self (accessCall clocks (now (sent .entry)) (now (room .entry)))) ⌝ }
     {
-        let s = self.survey(0);
-        let change = s.access(clocks, sent, room);
-        self.after(change)
-    }
-
-    // Digits first to last of the plane that a driver now shows, of two lent planes; the empty part where refused.
-    pub fn plane<'a>(
-        self,
-        driver: usize,
-        p0: &'a [u8],
-        p1: &'a [u8],
-        first: usize,
-        last: usize,
-    ) -> &'a [u8]
-        ensures { λ r. ⌜ now r ≡ replyOn self (ask driver (planeQuestion (now (p0 .entry)) (now (p1 .entry)) first last)) ⌝ }
-    {
-        let s = self.survey(driver);
-        s.plane(p0, p1, first, last)
-    }
-
-    // The number of that call.
-    pub fn plane_number(self, driver: usize, p0: &[u8], p1: &[u8], first: usize, last: usize) -> u8
-        ensures { λ r. ⌜ r ≡ numberOn self (ask driver (planeQuestion (now (p0 .entry)) (now (p1 .entry)) first last)) ⌝ }
-    {
-        let s = self.survey(driver);
-        s.plane_number(p0, p1, first, last)
+        let n = self.length();
+        let first = pass::access_by_arguments(n, clocks, sent.len(), room.len());
+        let number = self.found(first);
+        if number != 0 {
+            return self.refused(number);
+        }
+        let old = self.devices;
+        let mut words = shift_words(old, n);
+        wire::shift(&mut words, n, clocks, sent, room);
+        let new = all_taken(old, n, words);
+        Done {
+            number: 0,
+            row: Row {
+                n: self.n,
+                devices: new,
+            },
+        }
     }
 
     // What a cathode of one driver shows under two glyph tables.
@@ -165,31 +210,15 @@ impl Row {
     ) -> SegmentAnswer
         ensures { λ r. ⌜ r ≡ record { number = numberOn self (ask driver (segmentsQuestion cathode (now (font14 .entry)) (now (font16 .entry)))); pins = replyOn self (ask driver (segmentsQuestion cathode (now (font14 .entry)) (now (font16 .entry)))) } ⌝ }
     {
-        let s = self.survey(driver);
-        s.segments(cathode, font14, font16)
-    }
-
-    // The brightness of a digit of one driver.
-    pub fn brightness(self, driver: usize, digit: usize) -> BrightnessAnswer
-        ensures { λ r. ⌜ r ≡ record { number = numberOn self (ask driver (brightnessQuestion digit)); sixteenths = only (replyOn self (ask driver (brightnessQuestion digit))) } ⌝ }
-    {
-        let s = self.survey(driver);
-        s.brightness(digit)
-    }
-
-    // The plane that one driver shows.
-    pub fn shown(self, driver: usize) -> ShownAnswer
-        ensures { λ r. ⌜ r ≡ record { number = numberOn self (ask driver shownQuestion); plane = only (replyOn self (ask driver shownQuestion)) } ⌝ }
-    {
-        let s = self.survey(driver);
-        s.shown()
-    }
-
-    // Whether the interrupt of one driver is raised.
-    pub fn interrupt(self, driver: usize) -> InterruptAnswer
-        ensures { λ r. ⌜ r ≡ record { number = numberOn self (ask driver interruptQuestion); raised = only (replyOn self (ask driver interruptQuestion)) } ⌝ }
-    {
-        let s = self.survey(driver);
-        s.interrupt()
+        let own = display::segments_number(cathode, font14, font16);
+        let number = self.number(driver, own);
+        if number != 0 {
+            return SegmentAnswer {
+                number: number,
+                pins: [0; 19],
+            };
+        }
+        let asked = self.named(driver);
+        display::segments(asked, cathode, font14, font16)
     }
 }

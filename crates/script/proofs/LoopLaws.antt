@@ -10,7 +10,7 @@ use lib.Seq.{length-take-le, drop-drop}
 use borrow.Author.Tests.{eq-eqb, ne-eqb}
 use Rattle.words.specs.Choice.{if}
 use Rattle.device.specs.declared.Device.{Device}
-use Rattle.calls.specs.Served.{after}
+use Rattle.calls.specs.Outcome.{after}
 use Rattle.row.specs.Row.{fresh, records}
 use Rattle.row.specs.declared.Row.{Row}
 use Rattle.script.specs.Lines.{refusalLine}
@@ -20,7 +20,7 @@ use Rattle.script.specs.Steps.{lineOn, Written, Obeyed}
 use Rattle.script.specs.declared.Progress.{Progress}
 use Rattle.script.proofs.RoomLaws.{written-length, Left, all-written, part-written}
 use Rattle.script.proofs.FormatLaws.{items-first, size-zero, size-says, fits}
-use Rattle.script.proofs.RunLaws.{to-end, line-on, records-after, row-wide, fresh-records}
+use Rattle.script.proofs.RunLaws.{to-end, records-after, row-wide, fresh-records}
 
 module _ (s : List ℕ) (ds : List Device) (h : 0 < length s) where
   -- a malformed record is refused with 8, and the run stops
@@ -144,7 +144,7 @@ module _ {script : List ℕ} {start n first : ℕ} {out₀ out : List ℕ} {row 
         left =
             rw (o .row-after, records-after row (g .wide) q, f .exact, ← drop-drop (sizeOf s) from script)
             (part-written _ _ _ (lineOn row q) _ _ _ _ _
-            (rw (call-lines s (records row) some-left (f .well-formed) (λ e. other (k′ ∙ e)), ← line-on row (g .wide) q) at (g .left))
+            (rw (call-lines s (records row) some-left (f .well-formed) (λ e. other (k′ ∙ e))) at (g .left))
             (o .line));
       }
 

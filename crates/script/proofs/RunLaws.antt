@@ -17,16 +17,15 @@ use Rattle.device.specs.PowerUp.{powerUp}
 use Rattle.device.specs.declared.Device.{Device}
 use Rattle.display.specs.declared.SegmentAnswer.{SegmentAnswer}
 use Rattle.calls.specs.Calls.{Step, Question, Call, access, give, ask}
-use Rattle.calls.specs.Numbers.{allSound}
-use Rattle.calls.specs.Served.{numberAt, afterAt, after}
-use Rattle.calls.proofs.Accepted.{zero-says}
+use Rattle.calls.specs.Outcome.{number, after}
+use Rattle.calls.proofs.Accepted.{number-says}
 use Rattle.calls.proofs.Records.{length-after}
 use Rattle.row.specs.Row.{fresh, records, numberOn, replyOn, doneOn}
 use Rattle.row.specs.declared.Row.{Row}
 use Rattle.row.specs.declared.Done.{Done}
 use Rattle.script.specs.Lines.{each, hexByte, pinText, answerLine, showLine, refusalLine, lineFor}
-use Rattle.script.specs.Script.{freshChain, callLine}
-use Rattle.script.specs.Steps.{lineOn, Written, Given, Obeyed}
+use Rattle.script.specs.Script.{freshChain}
+use Rattle.script.specs.Steps.{Written, Given, Obeyed}
 use Rattle.script.specs.declared.Progress.{Progress}
 use Rattle.script.proofs.RoomLaws.{length-each}
 
@@ -36,15 +35,14 @@ to-end k l = take-all (length l - k) (drop k l) (rw length-drop (omega arith))
 
 -- an access that is served has at most 4,096 clocks, and bytes for them
 pub access-fits : (r : Row) (c : ℕ) (sent room : List ℕ) → numberOn r (access c sent room) ≡ 0 → (c ≤ 4096) × (bytesFor c ≤ length sent)
-unfolding numberAt
 access-fits r c sent room z =
-    let f = sizes-fit c (length sent) (length room) (zero-says (r .n) (allSound (records r)) (access c sent room) z .bytes) in
+    let f = sizes-fit c (length sent) (length room) (number-says (access c sent room) (records r) z .bytes) in
     (f .0, f .1)
 
 -- a question leaves the row as it is
 pub ask-leaves : (r : Row) (j : ℕ) (q : Question) → doneOn r (ask j q) .row ≡ r
-unfolding afterAt
-ask-leaves r j q = go (eqb (numberAt (r .n) (ask j q) (records r)) 0)
+unfolding after
+ask-leaves r j q = go (eqb (number (ask j q) (records r)) 0)
   where
     go : (b : Bool) → _≡_ {A = Row} (record { n = r .n; devices = if b (records r) (records r) ++ drop (r .n) (r .devices) }) r
     go true = rw take-append-drop
@@ -54,18 +52,14 @@ module _ (r : Row) (small : r .n ≤ length (r .devices)) where
   length-records : length (records r) ≡ r .n
   length-records = length-take-le (r .n) (r .devices) small
 
-  -- what a call prints is what it prints on the chain
-  pub line-on : (q : Call) → lineOn r q ≡ callLine q (records r)
-  line-on q = rw length-records
-
   -- the chain after it
   pub records-after : (q : Call) → records (doneOn r q .row) ≡ after q (records r)
-  records-after q = rw length-records (take-at (afterAt (r .n) q (records r)) (drop (r .n) (r .devices)) (r .n) (rw length-records at (length-after q (records r))))
+  records-after q = take-at (after q (records r)) (drop (r .n) (r .devices)) (r .n) (length-after q (records r) ∙ length-records)
 
   -- and it has as many records as before
   pub row-wide : (q : Call) → doneOn r q .row .n ≤ length (doneOn r q .row .devices)
   row-wide q =
-      let l : length (afterAt (r .n) q (records r)) ≡ r .n = rw length-records at (length-after q (records r)) in
+      let l : length (after q (records r)) ≡ r .n = length-after q (records r) ∙ length-records in
       rw (length-append, l) (omega arith)
 
 -- a row at power-up

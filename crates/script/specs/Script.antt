@@ -9,7 +9,7 @@ use Rattle.device.specs.PowerUp.{powerUp}
 use Rattle.device.specs.declared.Device.{Device}
 use Rattle.calls.specs.Calls.{Call}
 use Rattle.calls.specs.Numbers.{chainNumber}
-use Rattle.calls.specs.Served.{number, after, reply}
+use Rattle.calls.specs.Outcome.{number, after, reply}
 use Rattle.script.specs.Lines.{chainLine, refusalLine, lineFor}
 use Rattle.script.specs.Format.{Item, chain, call, malformed, items}
 

@@ -1,31 +1,71 @@
 -- `row::Row::access` meets its contract. Assumes nothing.
-use mathlib.Core.Path.{_∙_}
+use mathlib.Core.Path.{_≡_, _∙_}
+use Rattle.calls.specs.Calls.{access}
+use Rattle.row.specs.Row.{numberOn}
+use Rattle.row.proofs.RowLaws.{access-found, access-refused, access-done}
 use borrow.Author.Needs.{needs}
-use Rattle.row.proofs.RowLaws.{access-done, access-given}
 use Rattle.row.proofs.Row.access.Statement.{statement}
 use Rattle.row.proofs.Row.access.Tie as tie
 
-survey-requires : tie.Need-survey-requires
-survey-requires c κs = search needs
+length-requires : tie.Need-length-requires
+length-requires c κs = search needs
 
-access-requires : tie.Need-access-requires
-access-requires c κs = search needs
+access-by-arguments-requires : tie.Need-access-by-arguments-requires
+access-by-arguments-requires c κs = search needs
 
-after-requires : tie.Need-after-requires
-after-requires c κs = search needs
+found-requires : tie.Need-found-requires
+found-requires c κs = search needs
+
+refused-requires : tie.Need-refused-requires
+refused-requires c κs = search needs
+
+returns : tie.Need-returns
+returns c =
+    let f = c .before .before in
+    let a = f .before .before .before .before .before .args in
+    let e : f .found .result ≡ numberOn (a .self) (access (a .clocks) (a .sent .now) (a .room .now)) =
+    f .found .ensures ∙ rw (f .before .access-by-arguments .ensures, f .before .before .length .ensures .0) (access-found (a .self) (a .clocks) (a .sent .now) (a .room .now)) in
+    rw (c .refused .ensures) (access-refused (a .self) (a .clocks) (a .sent .now) (a .room .now) _ e (c .before .if1 .taken))
+
+shift-words-requires : tie.Need-shift-words-requires
+shift-words-requires c κs = search needs
+
+slice-aggregate-shift : tie.Need-slice-aggregate-shift
+slice-aggregate-shift c = search needs
+
+shift-requires : tie.Need-shift-requires
+shift-requires c κs = search needs
+
+all-taken-requires : tie.Need-all-taken-requires
+all-taken-requires c κs = search needs
 
 same-length : tie.Need-same-length
 same-length c = search needs
 
-returns : tie.Need-returns
-returns c =
-    let a = c .before .before .before .before .before .before .before .before .args in
-    let s = c .before .before .before .before .before .survey .ensures in
-    let d = c .before .before .before .access .ensures in (
-      rw (c .after .ensures, d .0, s .0) (access-done (a .self) (s .1) (a .clocks) (a .sent .now) (a .room .now)),
-      rw (s .0) at (d .1) ∙ access-given (a .self) (s .1) (a .clocks) (a .sent .now) (a .room .now),
-    )
+returns-2 : tie.Need-returns-2
+returns-2 c =
+    let h = c .before .before .before .before in
+    let w = h .before .before .before in
+    let f = w .before .before .before in
+    let a = f .before .before .before .before .before .args in
+    let l = f .before .before .length .ensures .0 in
+    let e : f .found .result ≡ numberOn (a .self) (access (a .clocks) (a .sent .now) (a .room .now)) =
+    f .found .ensures ∙ rw (f .before .access-by-arguments .ensures, l) (access-found (a .self) (a .clocks) (a .sent .now) (a .room .now)) in
+    rw (c .all-taken .ensures, h .shift .ensures .0, h .shift .ensures .1, w .shift-words .ensures, l)
+    (access-done (a .self) (a .clocks) (a .sent .now) (a .room .now) _ e (w .before .before .if1 .left))
 
 pub access-spec : {M : Type 1} → statement M
 access-spec =
-    tie.close (tie.spec survey-requires access-requires after-requires same-length returns)
+    tie.close
+    (tie.spec
+    length-requires
+    access-by-arguments-requires
+    found-requires
+    refused-requires
+    returns
+    shift-words-requires
+    slice-aggregate-shift
+    shift-requires
+    all-taken-requires
+    same-length
+    returns-2)

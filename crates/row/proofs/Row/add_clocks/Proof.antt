@@ -1,24 +1,49 @@
 -- `row::Row::add_clocks` meets its contract. Assumes nothing.
+use mathlib.Core.Path.{_∙_}
 use borrow.Author.Needs.{needs}
 use Rattle.calls.specs.Calls.{clocks}
-use Rattle.row.proofs.RowLaws.{give-done}
+use Rattle.row.proofs.Typed.{sixteen}
+use Rattle.row.proofs.RowLaws.{in-row, give-refused, give-done}
 use Rattle.row.proofs.Row.add_clocks.Statement.{statement}
 use Rattle.row.proofs.Row.add_clocks.Tie as tie
 
-survey-requires : tie.Need-survey-requires
-survey-requires c κs = search needs
+clocks-number-requires : tie.Need-clocks-number-requires
+clocks-number-requires c κs = search needs
 
-add-clocks-requires : tie.Need-add-clocks-requires
-add-clocks-requires c κs = search needs
+number-requires : tie.Need-number-requires
+number-requires c κs = search needs
 
-after-requires : tie.Need-after-requires
-after-requires c κs = search needs
+refused-requires : tie.Need-refused-requires
+refused-requires c κs = search needs
 
 returns : tie.Need-returns
 returns c =
-    let a = c .before .before .before .args in
-    let s = c .before .before .survey .ensures in
-    rw (c .after .ensures, c .before .add-clocks .ensures, s .0) (give-done (a .self) (s .1) (a .driver) (clocks (a .clocks)))
+    let n = c .before .before in
+    let a = n .before .before .args in
+    c .refused .ensures ∙ give-refused (a .self) (a .driver) (clocks (a .clocks)) _ _ (n .before .clocks-number .ensures) (n .number .ensures) (c .before .if1 .taken)
+
+named-requires : tie.Need-named-requires
+named-requires c κs =
+    let s = c .before .before .before in
+    in-row (s .args .self) (sixteen (s .args .self) _ (s .good .0)) (s .args .driver) (c .before .before .clocks-number .result) _ (c .before .number .ensures) (c .if1 .left)
+
+clocked-requires : tie.Need-clocked-requires
+clocked-requires c κs = search needs
+
+served-requires : tie.Need-served-requires
+served-requires c κs =
+    let l = c .before .before in
+    let s = l .before .before .before in
+    in-row (s .args .self) (sixteen (s .args .self) _ (s .good .0)) (s .args .driver) (l .before .before .clocks-number .result) _ (l .before .number .ensures) (l .if1 .left)
+
+returns-2 : tie.Need-returns-2
+returns-2 c =
+    let l = c .before .before .before in
+    let n = l .before in
+    let a = n .before .before .args in
+    rw (c .served .ensures, c .before .clocked .ensures, c .before .before .named .ensures)
+    (give-done (a .self) (a .driver) (clocks (a .clocks)) _ _ (n .before .clocks-number .ensures) (n .number .ensures) (l .if1 .left))
 
 pub add-clocks-spec : {M : Type 1} → statement M
-add-clocks-spec = tie.close (tie.spec survey-requires add-clocks-requires after-requires returns)
+add-clocks-spec =
+    tie.close (tie.spec clocks-number-requires number-requires refused-requires returns named-requires clocked-requires served-requires returns-2)

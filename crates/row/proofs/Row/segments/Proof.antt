@@ -1,22 +1,46 @@
 -- `row::Row::segments` meets its contract. Assumes nothing.
+use mathlib.Core.Path.{_∙_}
 use borrow.Author.Needs.{needs}
-use Rattle.calls.specs.Calls.{segments}
-use Rattle.row.proofs.RowLaws.{ask-on, ask-given}
+use Rattle.row.proofs.Typed.{sixteen}
+use Rattle.row.proofs.RowLaws.{in-row, show-refused, show-done}
 use Rattle.row.proofs.Row.segments.Statement.{statement}
 use Rattle.row.proofs.Row.segments.Tie as tie
 
-survey-requires : tie.Need-survey-requires
-survey-requires c κs = search needs
+segments-number-requires : tie.Need-segments-number-requires
+segments-number-requires c κs = search needs
+
+number-requires : tie.Need-number-requires
+number-requires c κs = search needs
+
+returns : tie.Need-returns
+returns c =
+    let n = c .before in
+    let a = n .before .before .before .before .args in
+    show-refused (a .self) (a .driver) (a .cathode) (a .font14 .now) (a .font16 .now) _ _ (n .before .segments-number .ensures) (n .number .ensures) (c .if1 .taken)
+
+named-requires : tie.Need-named-requires
+named-requires c κs =
+    let n = c .before in
+    let s = n .before .before .before .before in
+    in-row (s .args .self) (sixteen (s .args .self) _ (s .good .0)) (s .args .driver) (n .before .segments-number .result) _ (n .number .ensures) (c .if1 .left)
 
 segments-requires : tie.Need-segments-requires
 segments-requires c κs = search needs
 
-returns : tie.Need-returns
-returns c =
-    let a = c .before .before .before .before .args in
-    let s = c .before .survey .ensures in
-    let q = segments (a .cathode) (a .font14 .now) (a .font16 .now) in
-    rw (c .segments .ensures, s .0, ask-given (a .self) (s .1) (a .driver) q, ask-on (a .self) (s .1) (a .driver) q)
+returns-2 : tie.Need-returns-2
+returns-2 c =
+    let n = c .before .before .before in
+    let a = n .before .before .before .before .args in
+    rw (c .segments .ensures, c .before .named .ensures)
+    (show-done (a .self) (a .driver) (a .cathode) (a .font14 .now) (a .font16 .now) _ _ (n .before .segments-number .ensures) (n .number .ensures) (c .before .before .if1 .left))
 
 pub segments-spec : {M : Type 1} → statement M
-segments-spec = tie.close (tie.spec survey-requires segments-requires returns)
+segments-spec =
+    tie.close
+    (tie.spec
+    segments-number-requires
+    number-requires
+    returns
+    named-requires
+    segments-requires
+    returns-2)

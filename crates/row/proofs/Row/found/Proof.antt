@@ -1,0 +1,29 @@
+-- `row::Row::found` meets its contract. Assumes nothing.
+use native.Mathlib.Omega.{arith}
+use mathlib.Core.Path.{_∙_}
+use borrow.Author.Needs.{needs}
+use Rattle.pass.proofs.FoundLaws.{pass-le}
+use Rattle.row.proofs.RowLaws.{number-found}
+use Rattle.row.proofs.Row.found.Statement.{statement}
+use Rattle.row.proofs.Row.found.Tie as tie
+
+length-requires : tie.Need-length-requires
+length-requires c κs = search needs
+
+to-pass-requires : tie.Need-to-pass-requires
+to-pass-requires c κs = search needs
+
+widths-requires : tie.Need-widths-requires
+widths-requires c κs = omega (arith, c .to-pass .ensures, pass-le (c .before .before .before .args .first) (c .before .length .result))
+
+found-requires : tie.Need-found-requires
+found-requires c κs = search needs
+
+returns : tie.Need-returns
+returns c =
+    let p = c .before .before in
+    let a = p .before .before .before .args in
+    c .found .ensures ∙ number-found (a .self) (a .first) _ _ (p .to-pass .ensures ∙ rw (p .before .length .ensures .0)) (c .before .widths .ensures)
+
+pub found-spec : {M : Type 1} → statement M
+found-spec = tie.close (tie.spec length-requires to-pass-requires widths-requires found-requires returns)

@@ -1,0 +1,19 @@
+-- `row::Row::length` meets its contract. Assumes nothing.
+use native.Mathlib.Omega.{arith}
+use Rattle.row.proofs.Typed.{sixteen}
+use Rattle.row.proofs.RowLaws.{length-short, length-long}
+use Rattle.row.proofs.Row.length.Statement.{statement}
+use Rattle.row.proofs.Row.length.Tie as tie
+
+returns : tie.Need-returns
+returns c =
+    let s = c .before .before in
+    (length-short (s .args .self) (sixteen (s .args .self) _ (s .good .0)) (c .if1 .taken), omega arith)
+
+returns-2 : tie.Need-returns-2
+returns-2 c =
+    let s = c .before .before in
+    (length-long (s .args .self) (sixteen (s .args .self) _ (s .good .0)) (omega arith), omega arith)
+
+pub length-spec : {M : Type 1} → statement M
+length-spec = tie.close (tie.spec returns returns-2)

@@ -1,0 +1,25 @@
+-- `row::Row::named` meets its contract. Assumes nothing.
+use Prim.Native.Nat.{_-_}
+use native.Mathlib.Omega.{arith}
+use Rattle.device.specs.PowerUp.{powerUp}
+use Rattle.row.proofs.Typed.{sixteen, default}
+use borrow.Author.Needs.{needs}
+use Rattle.row.proofs.Row.named.Statement.{statement}
+use Rattle.row.proofs.Row.named.Tie as tie
+
+sub-result : tie.Need-sub-result
+sub-result c = search needs
+
+mul-result : tie.Need-mul-result
+mul-result c = search needs
+
+array-copy-out-result : tie.Need-array-copy-out-result
+array-copy-out-result c = search needs
+
+returns : tie.Need-returns
+returns c =
+    let s = c .before .before in
+    default _ powerUp (s .args .self .devices) (s .args .driver - 1) (omega (arith, sixteen (s .args .self) _ (s .good .0)))
+
+pub named-spec : {M : Type 1} → statement M
+named-spec = tie.close (tie.spec sub-result mul-result array-copy-out-result returns)

@@ -1,0 +1,65 @@
+-- What the types of a row and of its records say of their values.
+--     sixteen        a row has sixteen records
+--     all-bytes      the bytes of sixteen records are bytes
+--     default        an element, whatever is read past the end
+-- Assumes nothing.
+use Prim.Native.Nat.{ℕ, zero, suc, _<_}
+use native.Mathlib.Nat.{le-of-suc-le-suc, not-suc-le-zero}
+use mathlib.Core.List.{List, [], _∷_}
+use mathlib.Core.Path.{_≡_, refl, sym, _∙_}
+use lib.ListN.{length, getD, take, length-map}
+use mir.Val.{Val}
+use denote.Array.{Array, each}
+use denote.Laws.{Is}
+use denote.Shadow.{shadow}
+use denote.Struct.Declared as Declared
+use denote.Struct.Laws.{owed}
+use Rattle.controls.proofs.Config as Config
+use Rattle.controls.proofs.Config.Laws as Config′
+use Rattle.controls.proofs.Controls as Controls
+use Rattle.controls.proofs.Controls.Laws as Controls′
+use Rattle.registers.proofs.Registers as Registers
+use Rattle.registers.proofs.Registers.Laws as Registers′
+use Rattle.device.specs.declared.Device.{Device}
+use Rattle.device.proofs.Device as Driver
+use Rattle.device.proofs.Device.Laws as Driver′
+use Rattle.pass.specs.Widths.{Bytes, AllBytes}
+use Rattle.row.specs.declared.Row.{Row}
+use Rattle.row.proofs.Row as Chain
+use Rattle.row.proofs.Row.Laws as Chain′
+
+pub sixteen : (r : Row) (vs : List Val) → Is (Declared.row Chain.the-type) r vs → length (r .devices) ≡ 16
+sixteen r vs is = sym (length-map (r .devices) _) ∙ owed Chain.the-type Chain′.the-laws r vs is .1 .0 .1 .0 .1
+
+bytes-of : (d : Device) (vs : List Val) → Is (Declared.row Driver.the-type) d vs → Bytes d
+bytes-of d vs is =
+    let r = owed Registers.the-type Registers′.the-laws (d .registers) _ (owed Driver.the-type Driver′.the-laws d vs is .0) in
+    let c = owed Controls.the-type Controls′.the-laws (d .registers .controls) _ (r .0) in
+    let f = owed Config.the-type Config′.the-laws (d .registers .config) _ (r .1 .0) in
+    record {
+      global = c .1 .0 .1;
+      limit = c .1 .1 .0 .1;
+      gpio = c .1 .1 .1 .0 .1;
+      ports = c .1 .1 .1 .1 .0 .1;
+      test = c .1 .1 .1 .1 .1 .0 .1;
+      types = c .1 .1 .1 .1 .1 .1 .0 .1;
+      i = f .0 .1;
+      e = f .1 .0 .1;
+      b = f .1 .1 .0 .1;
+      s = f .1 .1 .1 .0 .1;
+    }
+
+pub all-bytes : (ds : List Device) (vs : List Val) → Is (Array (Declared.row Driver.the-type) 16) ds vs → (n : ℕ) → AllBytes (take n ds)
+unfolding AllBytes
+all-bytes ds vs is n = go ds (is .0) (is .1 .1) n
+  where
+    go : (xs : List Device) (us : List Val) → shadow (each Device (Declared.row Driver.the-type .own) xs us) → (n : ℕ) → AllBytes (take n xs)
+    go xs us s zero = tt
+    go [] us s (suc n) = tt
+    go (x ∷ xs) [] s (suc n) = absurd s
+    go (x ∷ xs) (u ∷ us) s (suc n) = (bytes-of x (u ∷ []) (s .0), go xs us (s .1) n)
+
+pub default : {A : Type 0} (d e : A) (xs : List A) (i : ℕ) → i < length xs → getD xs i d ≡ getD xs i e
+default d e [] i h = absurd (not-suc-le-zero h)
+default d e (x ∷ xs) zero h = refl
+default d e (x ∷ xs) (suc i) h = default d e xs i (le-of-suc-le-suc h)

@@ -1,4 +1,0 @@
-pub mod SurveyLaws
-pub mod Ladder
-pub mod CallLaws
-pub mod ChainLaws

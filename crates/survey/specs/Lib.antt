@@ -1,3 +1,0 @@
-pub mod Survey
-pub mod Change
-pub mod Calls

@@ -33,8 +33,8 @@ fn widths(devices: [Device; 16], n: usize) -> Widths
     let mut w = Widths::new();
     let mut i = 0;
     while i < n {
-        let d = devices[i];
-        w = w.with(d);
+        let passed = devices[i];
+        w = w.with(passed);
         i += 1;
     }
     w
@@ -46,11 +46,11 @@ fn shift_words(devices: [Device; 16], n: usize) -> [u16; 16]
     ensures { λ r. ⌜ r ≡ wordsTo devices (replicate 16 0) n ⌝ }
 {
     let mut words = [0; 16];
-    let mut i = 0;
-    while i < n {
-        let d = devices[i];
-        words[i] = d.shift;
-        i += 1;
+    let mut k = 0;
+    while k < n {
+        let d = devices[k];
+        words[k] = d.shift;
+        k += 1;
     }
     words
 }
@@ -60,11 +60,11 @@ fn all_taken(mut devices: [Device; 16], n: usize, words: [u16; 16]) -> [Device; 
     requires { ⌜ n ≤ 16 ⌝ }
     ensures { λ r. ⌜ r ≡ takenTo devices words n ⌝ }
 {
-    let mut i = 0;
-    while i < n {
-        let d = devices[i];
-        devices[i] = d.taken(words[i]);
-        i += 1;
+    let mut at = 0;
+    while at < n {
+        let old = devices[at];
+        devices[at] = old.taken(words[at]);
+        at += 1;
     }
     devices
 }
@@ -93,17 +93,17 @@ impl Row {
         ensures { λ r. ⌜ r ≡ found first (allSound (records self)) ⌝ }
     {
         let devices = self.devices;
-        let n = pass::to_pass(first, self.length());
-        let w = widths(devices, n);
+        let n = self.length();
+        let w = widths(devices, pass::to_pass(first, n));
         pass::found(first, w)
     }
 
-    // The number of a call that names a driver; own is that of what the driver is given or asked.
+    // The number of a call that names a driver; own is that of what the driver is given or asked. Where it is 0 the driver is one of the sixteen.
     fn number(self, driver: usize, own: u8) -> u8
-        ensures { λ r. ⌜ r ≡ callNumber (records self) driver own ⌝ }
+        ensures { λ r. ⌜ (r ≡ callNumber (records self) driver own) × (r ≡ 0 → (1 ≤ driver) × (driver ≤ 16)) ⌝ }
     {
-        let first = pass::by_arguments(self.length(), driver, own);
-        self.found(first)
+        let n = self.length();
+        self.found(pass::by_arguments(n, driver, own))
     }
 
     // The record of the driver named.
@@ -111,16 +111,16 @@ impl Row {
         requires { ⌜ (1 ≤ driver) × (driver ≤ 16) ⌝ }
         ensures { λ r. ⌜ r ≡ getD (self .devices) (driver - 1) powerUp ⌝ }
     {
-        let devices = self.devices;
-        devices[driver - 1]
+        let records = self.devices;
+        records[driver - 1]
     }
 
     // A call that is refused: nothing changes.
-    fn refused(self, number: u8) -> Done
-        ensures { λ r. ⌜ r ≡ record { number = number; row = self } ⌝ }
+    fn refused(self, refusal: u8) -> Done
+        ensures { λ r. ⌜ r ≡ record { number = refusal; row = self } ⌝ }
     {
         Done {
-            number: number,
+            number: refusal,
             row: self,
         }
     }

@@ -1,9 +1,9 @@
 -- `row::Row::access` meets its contract. Assumes nothing.
 use mathlib.Core.Path.{_≡_, _∙_}
+use borrow.Author.Needs.{needs}
 use Rattle.calls.specs.Calls.{access}
 use Rattle.row.specs.Row.{numberOn}
 use Rattle.row.proofs.RowLaws.{access-found, access-refused, access-done}
-use borrow.Author.Needs.{needs}
 use Rattle.row.proofs.Row.access.Statement.{statement}
 use Rattle.row.proofs.Row.access.Tie as tie
 
@@ -19,13 +19,18 @@ found-requires c κs = search needs
 refused-requires : tie.Need-refused-requires
 refused-requires c κs = search needs
 
+-- the number that was found
+number-is : (c : tie.After-found)
+    → let a = c .before .before .before .before .before .args in c .found .result ≡ numberOn (a .self) (access (a .clocks) (a .sent .now) (a .room .now))
+number-is c =
+    let a = c .before .before .before .before .before .args in
+    c .found .ensures ∙ rw (c .before .access-by-arguments .ensures, c .before .before .length .ensures .0) (access-found (a .self) (a .clocks) (a .sent .now) (a .room .now))
+
 returns : tie.Need-returns
 returns c =
     let f = c .before .before in
     let a = f .before .before .before .before .before .args in
-    let e : f .found .result ≡ numberOn (a .self) (access (a .clocks) (a .sent .now) (a .room .now)) =
-    f .found .ensures ∙ rw (f .before .access-by-arguments .ensures, f .before .before .length .ensures .0) (access-found (a .self) (a .clocks) (a .sent .now) (a .room .now)) in
-    rw (c .refused .ensures) (access-refused (a .self) (a .clocks) (a .sent .now) (a .room .now) _ e (c .before .if1 .taken))
+    rw (c .refused .ensures) (access-refused (a .self) (a .clocks) (a .sent .now) (a .room .now) _ (number-is f) (c .before .if1 .taken))
 
 shift-words-requires : tie.Need-shift-words-requires
 shift-words-requires c κs = search needs
@@ -48,11 +53,8 @@ returns-2 c =
     let w = h .before .before .before in
     let f = w .before .before .before in
     let a = f .before .before .before .before .before .args in
-    let l = f .before .before .length .ensures .0 in
-    let e : f .found .result ≡ numberOn (a .self) (access (a .clocks) (a .sent .now) (a .room .now)) =
-    f .found .ensures ∙ rw (f .before .access-by-arguments .ensures, l) (access-found (a .self) (a .clocks) (a .sent .now) (a .room .now)) in
-    rw (c .all-taken .ensures, h .shift .ensures .0, h .shift .ensures .1, w .shift-words .ensures, l)
-    (access-done (a .self) (a .clocks) (a .sent .now) (a .room .now) _ e (w .before .before .if1 .left))
+    rw (c .all-taken .ensures, h .shift .ensures .0, h .shift .ensures .1, w .shift-words .ensures, f .before .before .length .ensures .0)
+    (access-done (a .self) (a .clocks) (a .sent .now) (a .room .now) _ (number-is f) (w .before .before .if1 .left))
 
 pub access-spec : {M : Type 1} → statement M
 access-spec =

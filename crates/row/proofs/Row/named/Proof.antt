@@ -1,9 +1,9 @@
 -- `row::Row::named` meets its contract. Assumes nothing.
 use Prim.Native.Nat.{_-_}
 use native.Mathlib.Omega.{arith}
+use borrow.Author.Needs.{needs}
 use Rattle.device.specs.PowerUp.{powerUp}
 use Rattle.row.proofs.Typed.{sixteen, default}
-use borrow.Author.Needs.{needs}
 use Rattle.row.proofs.Row.named.Statement.{statement}
 use Rattle.row.proofs.Row.named.Tie as tie
 

@@ -1,7 +1,10 @@
 -- `row::Row::number` meets its contract. Assumes nothing.
-use mathlib.Core.Path.{_∙_}
+use mathlib.Core.Path.{_≡_, _∙_}
 use borrow.Author.Needs.{needs}
-use Rattle.row.proofs.RowLaws.{call-found}
+use Rattle.pass.specs.Found.{callNumber}
+use Rattle.row.specs.Row.{records}
+use Rattle.row.proofs.Typed.{sixteen}
+use Rattle.row.proofs.RowLaws.{call-found, in-row}
 use Rattle.row.proofs.Row.number.Statement.{statement}
 use Rattle.row.proofs.Row.number.Tie as tie
 
@@ -16,8 +19,11 @@ found-requires c κs = search needs
 
 returns : tie.Need-returns
 returns c =
-    let a = c .before .before .before .args in
-    c .found .ensures ∙ rw (c .before .by-arguments .ensures, c .before .before .length .ensures .0) (call-found (a .self) (a .driver) (a .own))
+    let s = c .before .before .before in
+    let a = s .args in
+    let e : c .found .result ≡ callNumber (records (a .self)) (a .driver) (a .own) =
+    c .found .ensures ∙ rw (c .before .by-arguments .ensures, c .before .before .length .ensures .0) (call-found (a .self) (a .driver) (a .own)) in
+    (e, in-row (a .self) (sixteen (a .self) _ (s .good .0)) (a .driver) (a .own) _ e)
 
 pub number-spec : {M : Type 1} → statement M
 number-spec = tie.close (tie.spec length-requires by-arguments-requires found-requires returns)

@@ -1,8 +1,6 @@
 -- `row::Row::segments` meets its contract. Assumes nothing.
-use mathlib.Core.Path.{_∙_}
 use borrow.Author.Needs.{needs}
-use Rattle.row.proofs.Typed.{sixteen}
-use Rattle.row.proofs.RowLaws.{in-row, show-refused, show-done}
+use Rattle.row.proofs.RowLaws.{show-refused, show-done}
 use Rattle.row.proofs.Row.segments.Statement.{statement}
 use Rattle.row.proofs.Row.segments.Tie as tie
 
@@ -16,13 +14,10 @@ returns : tie.Need-returns
 returns c =
     let n = c .before in
     let a = n .before .before .before .before .args in
-    show-refused (a .self) (a .driver) (a .cathode) (a .font14 .now) (a .font16 .now) _ _ (n .before .segments-number .ensures) (n .number .ensures) (c .if1 .taken)
+    show-refused (a .self) (a .driver) (a .cathode) (a .font14 .now) (a .font16 .now) _ _ (n .before .segments-number .ensures) (n .number .ensures .0) (c .if1 .taken)
 
 named-requires : tie.Need-named-requires
-named-requires c κs =
-    let n = c .before in
-    let s = n .before .before .before .before in
-    in-row (s .args .self) (sixteen (s .args .self) _ (s .good .0)) (s .args .driver) (n .before .segments-number .result) _ (n .number .ensures) (c .if1 .left)
+named-requires c κs = c .before .number .ensures .1 (c .if1 .left)
 
 segments-requires : tie.Need-segments-requires
 segments-requires c κs = search needs
@@ -32,7 +27,7 @@ returns-2 c =
     let n = c .before .before .before in
     let a = n .before .before .before .before .args in
     rw (c .segments .ensures, c .before .named .ensures)
-    (show-done (a .self) (a .driver) (a .cathode) (a .font14 .now) (a .font16 .now) _ _ (n .before .segments-number .ensures) (n .number .ensures) (c .before .before .if1 .left))
+    (show-done (a .self) (a .driver) (a .cathode) (a .font14 .now) (a .font16 .now) _ _ (n .before .segments-number .ensures) (n .number .ensures .0) (c .before .before .if1 .left))
 
 pub segments-spec : {M : Type 1} → statement M
 segments-spec =

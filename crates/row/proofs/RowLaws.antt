@@ -74,24 +74,24 @@ module _ (r : Row) (sixteen : length (r .devices) ≡ 16) where
       let h = in-range (records r) j own (sym e ∙ z) in
       (h .0, omega (arith, h .1, part-le (r .n) (r .devices)))
 
--- ---- the number of a call, once the records are passed
-module _ (r : Row) where
+-- ---- the number of a call, once the n records are passed
+module _ (r : Row) (n : ℕ) (l : n ≡ length (records r)) where
   abbrev ds : List Device
   ds = records r
 
-  pub number-found : (first w : ℕ) (sound : Bool) → w ≡ toPass first (length ds) → sound ≡ allSound (take w (r .devices)) → found first sound ≡ found first (allSound ds)
-  number-found first w sound p e = go (eqb first 0) (rw p at e)
+  pub number-found : (first w : ℕ) (sound : Bool) → w ≡ toPass first n → sound ≡ allSound (take w (r .devices)) → found first sound ≡ found first (allSound ds)
+  number-found first w sound p e = go (eqb first 0) (rw (p, l) at e)
     where
       go : (b : Bool) → sound ≡ allSound (take (if b (length ds) 0) (r .devices)) → if b (soundNumber sound) first ≡ if b (soundNumber (allSound ds)) first
       go true e = ap soundNumber (rw (part-take (r .n) (r .devices)) at e)
       go false e = refl
 
-  pub call-found : (j own : ℕ) → found (byArguments (length ds) j own) (allSound ds) ≡ callNumber ds j own
-  call-found j own = found-last (chainNumber (length ds) ∷ driverNumber (length ds) j ∷ own ∷ []) (soundNumber (allSound ds))
+  pub call-found : (j own first : ℕ) → first ≡ byArguments n j own → found first (allSound ds) ≡ callNumber ds j own
+  call-found j own first e = rw (e, l) (found-last (chainNumber (length ds) ∷ driverNumber (length ds) j ∷ own ∷ []) (soundNumber (allSound ds)))
 
-  pub access-found : (c : ℕ) (sent room : List ℕ) → found (accessByArguments (length ds) c (length sent) (length room)) (allSound ds) ≡ numberOn r (access c sent room)
+  pub access-found : (c : ℕ) (sent room : List ℕ) (first : ℕ) → first ≡ accessByArguments n c (length sent) (length room) → found first (allSound ds) ≡ numberOn r (access c sent room)
   unfolding number
-  access-found c sent room = found-last (chainNumber (length ds) ∷ sizeNumber c (length sent) (length room) ∷ []) (soundNumber (allSound ds))
+  access-found c sent room first e = rw (e, l) (found-last (chainNumber (length ds) ∷ sizeNumber c (length sent) (length room) ∷ []) (soundNumber (allSound ds)))
 
 -- ---- a refused call of any kind
 module _ (r : Row) (q : Call) (k : ℕ) (e : k ≡ numberOn r q) (z : k ≡ 0 → ⊥) where

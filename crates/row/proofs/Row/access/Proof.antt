@@ -24,7 +24,7 @@ number-is : (c : tie.After-found)
     → let a = c .before .before .before .before .before .args in c .found .result ≡ numberOn (a .self) (access (a .clocks) (a .sent .now) (a .room .now))
 number-is c =
     let a = c .before .before .before .before .before .args in
-    c .found .ensures ∙ rw (c .before .access-by-arguments .ensures, c .before .before .length .ensures .0) (access-found (a .self) (a .clocks) (a .sent .now) (a .room .now))
+    c .found .ensures ∙ access-found (a .self) _ (c .before .before .length .ensures .0) (a .clocks) (a .sent .now) (a .room .now) _ (c .before .access-by-arguments .ensures)
 
 returns : tie.Need-returns
 returns c =

@@ -23,7 +23,7 @@ returns : tie.Need-returns
 returns c =
     let p = c .before .before in
     let a = p .before .before .before .args in
-    c .found .ensures ∙ number-found (a .self) (a .first) _ _ (p .to-pass .ensures ∙ rw (p .before .length .ensures .0)) (c .before .widths .ensures)
+    c .found .ensures ∙ number-found (a .self) _ (p .before .length .ensures .0) (a .first) _ _ (p .to-pass .ensures) (c .before .widths .ensures)
 
 pub found-spec : {M : Type 1} → statement M
 found-spec = tie.close (tie.spec length-requires to-pass-requires widths-requires found-requires returns)

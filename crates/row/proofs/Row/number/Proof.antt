@@ -22,7 +22,7 @@ returns c =
     let s = c .before .before .before in
     let a = s .args in
     let e : c .found .result ≡ callNumber (records (a .self)) (a .driver) (a .own) =
-    c .found .ensures ∙ rw (c .before .by-arguments .ensures, c .before .before .length .ensures .0) (call-found (a .self) (a .driver) (a .own)) in
+    c .found .ensures ∙ call-found (a .self) _ (c .before .before .length .ensures .0) (a .driver) (a .own) _ (c .before .by-arguments .ensures) in
     (e, in-row (a .self) (sixteen (a .self) _ (s .good .0)) (a .driver) (a .own) _ e)
 
 pub number-spec : {M : Type 1} → statement M

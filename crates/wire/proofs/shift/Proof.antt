@@ -1,12 +1,29 @@
 -- `wire::shift` meets its contract. Assumes nothing.
+use Prim.Native.Nat.{_≤_}
 use native.Mathlib.Omega.{arith}
-use mathlib.Core.Path.{refl, sym, _∙_}
+use mathlib.Core.Bool.{true}
+use mathlib.Core.Path.{_≡_, refl, sym, _∙_}
 use lib.ListN.{length}
 use borrow.Author.Tests.{eq-eqb, ne-eqb, le-leb, lt-leb}
-use Rattle.wire.proofs.SizeLaws.{served}
 use borrow.Author.Needs.{needs}
+use Rattle.wire.specs.Bits.{bytesFor}
+use Rattle.wire.specs.Shift.{fits}
+use Rattle.wire.proofs.SizeLaws.{served}
 use Rattle.wire.proofs.shift.Statement.{statement}
 use Rattle.wire.proofs.shift.Tie as tie
+
+-- past the three tests the access fits
+module _ (t : tie.Else3) where
+  abbrev start : tie.Start
+  start = t .before .before .before .before .before .before .before
+
+  sizes : (start .args .clocks ≤ 4096) × (bytesFor (start .args .clocks) ≤ length (start .args .sent .now)) × (bytesFor (start .args .clocks) ≤ length (start .args .room .now))
+  sizes = served (start .args .clocks) _ _ (sym (t .before .size-number .ensures) ∙ t .if3 .left)
+
+  passed : fits (start .args .words .now) (start .args .n) (start .args .clocks) (start .args .sent .now) (start .args .room .now) ≡ true
+  passed =
+      let f = rw (t .before .size-number .ensures) at (eq-eqb _ 0 (t .if3 .left)) in
+      simp (le-leb _ _ (t .before .before .before .if1 .left), le-leb _ _ (t .before .before .if2 .left), f)
 
 returns : tie.Need-returns
 returns c = simp (lt-leb _ _ (c .if1 .taken)) (refl, refl)
@@ -22,12 +39,14 @@ returns-3 c =
     let f = rw (c .before .size-number .ensures) at (ne-eqb _ 0 (c .if3 .taken)) in
     simp (le-leb _ _ (c .before .before .before .if1 .left), le-leb _ _ (c .before .before .if2 .left), f) (refl, refl)
 
-shift-in-requires : tie.Need-shift-in-requires
-shift-in-requires c κs =
-    let t = c .before .before in
-    let a = t .before .before .before .before .before .before .before .args in
-    let k = served (a .clocks) (length (a .sent .now)) (length (a .room .now)) (sym (t .before .size-number .ensures) ∙ t .if3 .left) in
-    (t .before .before .before .if1 .left, t .before .before .if2 .left, omega (arith, k), omega (arith, k), omega (arith, k))
+mul-if4 : tie.Need-mul-if4
+mul-if4 c = search needs
+
+shift-whole-requires : tie.Need-shift-whole-requires
+shift-whole-requires c κs = omega (arith, sizes (c .before .before .before))
+
+shift-part-requires : tie.Need-shift-part-requires
+shift-part-requires c κs = omega (arith, sizes (c .before .before .before))
 
 same-length : tie.Need-same-length
 same-length c = search needs
@@ -36,10 +55,16 @@ same-length-2 : tie.Need-same-length-2
 same-length-2 c = search needs
 
 returns-4 : tie.Need-returns-4
-returns-4 c =
-    let t = c .before .before .before .before .before .before .before in
-    let f = rw (t .before .size-number .ensures) at (eq-eqb _ 0 (t .if3 .left)) in
-    simp (le-leb _ _ (t .before .before .before .if1 .left), le-leb _ _ (t .before .before .if2 .left), f) (c .before .before .before .before .shift-in .ensures)
+returns-4 c = simp (passed (c .before .before .before .before .before .before .before .before)) (c .before .before .before .before .shift-whole .ensures)
+
+same-length-3 : tie.Need-same-length-3
+same-length-3 c = search needs
+
+same-length-4 : tie.Need-same-length-4
+same-length-4 c = search needs
+
+returns-5 : tie.Need-returns-5
+returns-5 c = simp (passed (c .before .before .before .before .before .before .before .before)) (c .before .before .before .before .shift-part .ensures)
 
 pub shift-spec : {M : Type 1} → statement M
 shift-spec =
@@ -49,7 +74,12 @@ shift-spec =
     returns-2
     size-number-requires
     returns-3
-    shift-in-requires
+    mul-if4
+    shift-whole-requires
+    shift-part-requires
     same-length
     same-length-2
-    returns-4)
+    returns-4
+    same-length-3
+    same-length-4
+    returns-5)

@@ -1,0 +1,35 @@
+-- `wire::clear_spare` meets its contract, by the laws of the spare bits. Assumes nothing.
+use mathlib.Core.Path.{sym}
+use native.Mathlib.Omega.{arith}
+use borrow.Author.Needs.{needs}
+use Rattle.wire.proofs.ByteLaws.{none-spare, last-cleared}
+use Rattle.wire.proofs.clear_spare.Statement.{statement}
+use Rattle.wire.proofs.clear_spare.Tie as tie
+
+slice-read-kept : tie.Need-slice-read-kept
+slice-read-kept c = search needs
+
+kept-requires : tie.Need-kept-requires
+kept-requires c κs = search needs
+
+slice-write-room : tie.Need-slice-write-room
+slice-write-room c = search needs
+
+same-length : tie.Need-same-length
+same-length c = search needs
+
+returns : tie.Need-returns
+returns c =
+    let k = c .before .before .before .slice-known .given in
+    let a = c .before .before .before .before .args in
+    rw (c .kept .ensures) (sym (last-cleared (a .room .now) (a .clocks) (omega arith) (λ i. k i .fits) (c .before .before .if1 .taken)))
+
+returns-2 : tie.Need-returns-2
+returns-2 c =
+    let a = c .before .before .args in
+    sym (none-spare (a .room .now) (a .clocks) (omega arith) (λ i. c .before .slice-known .given i .fits) (c .if1 .left))
+
+pub clear-spare-spec : {M : Type 1} → statement M
+clear-spare-spec =
+    tie.close
+    (tie.spec slice-read-kept kept-requires slice-write-room same-length returns returns-2)

@@ -1,1 +1,3 @@
 pub mod Wired
+pub mod Packing
+pub mod Bytes

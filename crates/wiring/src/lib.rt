@@ -1,4 +1,5 @@
-// The segment pins O0 to O18 of each cathode (Tables 2 to 4).
+// The segment pins O0 to O18 of each cathode (Tables 2 to 4), and the same packed.
+mod packed;
 mod table;
 
 ghost use mathlib.Core.Path.{_≡_};
@@ -7,12 +8,29 @@ ghost use lib.ListN.{getD};
 ghost use Rattle.words.specs.Lists.{tabulate};
 ghost use Rattle.wiring.specs.Wiring.{wireAt};
 ghost use Rattle.wiring.specs.Table.{displayNumber, wireEntry, table, WiringTable};
+ghost use Rattle.wiring.specs.Packed.{sixPins, packedPins, parted, firstPins, packedRow};
 
 // What a cathode drives: a 16-segment digit, a 14-segment digit or two 7-segment digits.
 pub enum Display {
     Sixteen,
     Fourteen,
     SevenPair,
+}
+
+// Eight pins, a byte a pin, the lowest byte first: each pin's number in an answer where its segment is lit, and its segment as one bit of byte
+// 0, 1 or 2 of the segments as one number.
+pub struct PackedPins {
+    pub lit: u64,
+    pub low: u64,
+    pub high: u64,
+    pub point: u64,
+}
+
+// The pins O0 to O7, O8 to O15, and O16 to O18 of a cathode.
+pub struct PackedRow {
+    pub first: PackedPins,
+    pub middle: PackedPins,
+    pub last: PackedPins,
 }
 
 // Entries of the table that are no segment.
@@ -59,6 +77,81 @@ pub fn wires(display: Display, cathode: usize) -> [u8; 19]
         entries(k * 152 + cathode * 19)
     } else {
         [NOT_DRIVEN; 19]
+    }
+}
+
+// The first six pins of a display's list.
+fn six_pins(display: Display) -> PackedPins
+    ensures { λ r. ⌜ r ≡ sixPins display ⌝ }
+{
+    match display {
+        Display::Sixteen => packed::SIX_OF_SIXTEEN,
+        Display::Fourteen => packed::SIX_OF_FOURTEEN,
+        Display::SevenPair => packed::SIX_OF_PAIR,
+    }
+}
+
+// The pins O8 to O15, alike for every cathode.
+fn middle_pins(display: Display) -> PackedPins
+    ensures { λ r. ⌜ r ≡ packedPins display 0 8 ⌝ }
+{
+    match display {
+        Display::Sixteen => packed::MIDDLE_OF_WORD,
+        Display::Fourteen => packed::MIDDLE_OF_WORD,
+        Display::SevenPair => packed::MIDDLE_OF_PAIR,
+    }
+}
+
+// The pins O16 to O18, alike for every cathode.
+fn last_pins(display: Display) -> PackedPins
+    ensures { λ r. ⌜ r ≡ packedPins display 0 16 ⌝ }
+{
+    match display {
+        Display::Sixteen => packed::LAST_OF_WORD,
+        Display::Fourteen => packed::LAST_OF_WORD,
+        Display::SevenPair => packed::LAST_OF_PAIR,
+    }
+}
+
+// Six bytes, with two zero bytes put in at the pins of a cathode and its partner.
+fn parted(six: u64, cathode: usize) -> u64
+    requires { ⌜ cathode < 8 ⌝ }
+    ensures { λ r. ⌜ r ≡ parted six cathode ⌝ }
+{
+    let at = 16 * (cathode / 2);
+    let above = (six >> at) << at;
+    (above << 16) | (six & !above)
+}
+
+// The pins O0 to O7: the cathode's own and its partner's stand among the first six of the list.
+fn first_pins(display: Display, cathode: usize) -> PackedPins
+    requires { ⌜ cathode < 8 ⌝ }
+    ensures { λ r. ⌜ r ≡ firstPins (sixPins display) cathode ⌝ }
+{
+    let six = six_pins(display);
+    PackedPins {
+        lit: parted(six.lit, cathode) | (1 << (8 * cathode)),
+        low: parted(six.low, cathode),
+        high: parted(six.high, cathode),
+        point: 0,
+    }
+}
+
+// A row of the table, packed; a cathode above 7 drives no pin.
+pub fn packed_row(display: Display, cathode: usize) -> PackedRow
+    ensures { λ r. ⌜ r ≡ packedRow display cathode ⌝ }
+{
+    if cathode > 7 {
+        return PackedRow {
+            first: packed::NO_PINS,
+            middle: packed::NO_PINS,
+            last: packed::NO_PINS,
+        };
+    }
+    PackedRow {
+        first: first_pins(display, cathode),
+        middle: middle_pins(display),
+        last: last_pins(display),
     }
 }
 

@@ -1,17 +1,25 @@
 -- The bytes of the hex font are the rows of Table 11, by one computed test.
 -- Assumes nothing.
-use Prim.Native.Nat.{ℕ, _%_, _<_}
+use Prim.Native.Nat.{ℕ, _+_, _%_, _<_}
 use native.Mathlib.Omega.{arith}
 use mathlib.Core.Bool.{Bool, true, false, Bool·beq}
 use mathlib.Core.Path.{_≡_, refl}
-use lib.Dec.{ltb}
+use lib.Dec.{eqb, ltb}
 use lib.ListN.{getD}
-use borrow.Author.Tests.{ltb-true}
-use Rattle.words.specs.Choice.{bit}
+use borrow.Author.Tests.{eqb-true, ltb-true}
+use Rattle.words.specs.Choice.{if, bit}
 use Rattle.words.proofs.Below.{all, all-at}
 use Rattle.words.proofs.Truth.{same}
+use Rattle.wiring.specs.Packed.{byteOf, packed}
 use Rattle.glyphs.specs.Glyphs.{sevenLit}
 use Rattle.glyphs.specs.Numbers.{hexFont, sevenSegments}
+
+-- the word of the font that has character k, and in it the character's byte
+abbrev pub word : ℕ → ℕ
+word k = if (ltb k 8) (packed 8 (λ i. getD hexFont i 0)) (packed 8 (λ i. getD hexFont (8 + i) 0))
+
+pub hex-byte : (k w : ℕ) → k < 16 → w ≡ word k → byteOf w (k % 8) ≡ getD hexFont k 0
+hex-byte k w h e = rw e (eqb-true _ _ (all-at (λ c. eqb (byteOf (word c) (c % 8)) (getD hexFont c 0)) 16 refl k h))
 
 -- a character's segments a to g are seven bits
 pub hex-small : (c : ℕ) → c < 16 → getD hexFont c 0 < 128

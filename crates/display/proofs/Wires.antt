@@ -1,6 +1,6 @@
 -- A pin by its entry of the wiring table is the pin that the rule gives.
 -- Assumes nothing.
-use Prim.Native.Nat.{ℕ, _+_, _-_, _<_}
+use Prim.Native.Nat.{ℕ, _+_, _-_, _^_, _<_}
 use native.Mathlib.Omega.{arith}
 use mathlib.Core.Bool.{Bool, true, false, not, _&&_, _||_}
 use mathlib.Core.List.{List}
@@ -11,13 +11,15 @@ use borrow.Author.Tests.{lt-ltb, ltb-true}
 use Rattle.words.specs.Choice.{if, bit}
 use Rattle.words.specs.Lists.{tabulate}
 use Rattle.words.proofs.Below.{all, all-at}
-use Rattle.words.proofs.Lists.{getD-tabulate, tabulate-ext}
+use Rattle.words.proofs.Lists.{tabulate-ext}
 use Rattle.words.proofs.Truth.{passed}
 use Rattle.device.specs.declared.Device.{Device}
 use Rattle.wiring.specs.Wiring.{Segment, isSegment, none, glyph, point, first, second, cathode, notDriven, carries, listOf, digitOf, partner, place, ruleAt, wireAt}
 use Rattle.wiring.specs.Table.{segmentEntry, wireEntry}
+use Rattle.wiring.specs.Packed.{packedRow}
 use Rattle.wiring.specs.declared.Display.{Display}
 use Rattle.wiring.specs.declared.Display.the-variants.{Sixteen, Fourteen, SevenPair}
+use Rattle.wiring.specs.declared.PackedRow.{PackedRow}
 use Rattle.wiring.proofs.Wired.{wired}
 use Rattle.glyphs.specs.Glyphs.{litBy}
 use Rattle.glyphs.specs.Numbers.{segmentsBy}
@@ -28,6 +30,8 @@ use Rattle.display.specs.Pins.{pinNumber, pinOf, pinAt, segmentsNumber}
 use Rattle.display.specs.declared.Pin.{Pin}
 use Rattle.display.specs.declared.Pin.the-variants.{NotDriven, Lit, Unlit}
 use Rattle.display.specs.Table.{allSegments, litSegments, pinBy, tablePin, PinByPin}
+use Rattle.display.specs.Packed.{pinsBy}
+use Rattle.display.proofs.Packing.{numbered, row-pin}
 
 -- a pin's place is one of the list's
 place-lt : (d p : ℕ) → d < 8 → p < 19 → place d p < 17
@@ -42,10 +46,7 @@ bit-pin : (t : Bool) (n segments : ℕ) (on : Bool) → ltb n 17 ≡ true → bi
 bit-pin true n segments on h e = rw (h, all-at (λ k. bit k allSegments) 17 refl n (ltb-true n 17 h))
 bit-pin false n segments on h e = rw (h, e)
 
--- none, or a segment with a bit
-abbrev numbered : Segment → Bool
-numbered s = not (isSegment s) || ltb (segmentEntry s) 17
-
+-- the segments of a list are numbered
 listed : (k : Display) → all (λ r. numbered (getD (listOf k) r none)) 17 ≡ true
 listed Sixteen = refl
 listed Fourteen = refl
@@ -110,13 +111,14 @@ module _ (x : Device) (d : ℕ) (font14 font16 : List ℕ)
   table-pin p hp = rw (wired .entries k d p hd hp) (pin-at p hp)
 
   -- the pins of a cathode that is not dark
-  pub pins-lit : (segments : ℕ) (r : Display) (wires : List ℕ) → dark x d ≡ false → r ≡ k → segments ≡ litSegments x d font14 font16
-      → wires ≡ tabulate 19 (λ p. wireEntry (wireAt r d p))
-      → tabulate 19 (λ p. pinNumber (pinBy segments (getD wires p 0))) ≡ tabulate 19 (λ p. pinNumber (pinAt x d font14 font16 p))
-  pins-lit segments r wires bright e es ew = tabulate-ext 19 _ _ (λ p hp. ap pinNumber (read p hp ∙ chosen p ∙ pin-at p hp))
+  pub pins-lit : (segments : ℕ) (r : Display) (row : PackedRow) → segments < 2 ^ 64 → dark x d ≡ false → r ≡ k → segments ≡ litSegments x d font14 font16
+      → row ≡ packedRow r d
+      → pinsBy (2 ^ 64 - 1 - segments) row ≡ tabulate 19 (λ p. pinNumber (pinAt x d font14 font16 p))
+  pins-lit segments r row hs bright e es er =
+      rw (er, e) (tabulate-ext 19 _ _ (λ p hp. row-pin k d p segments hd hp hs ∙ ap pinNumber (read p hp ∙ chosen p ∙ pin-at p hp)))
     where
-      read : (p : ℕ) → p < 19 → pinBy segments (getD wires p 0) ≡ by-table p
-      read p hp = rw (ew, getD-tabulate {A = ℕ} 19 (λ q. wireEntry (wireAt r d q)) 0 p hp, e, es, lt-ltb d 8 hd, lt-ltb p 19 hp)
+      read : (p : ℕ) → p < 19 → pinBy segments (wireEntry (wireAt k d p)) ≡ by-table p
+      read p hp = rw (es, lt-ltb d 8 hd, lt-ltb p 19 hp)
 
       chosen : (p : ℕ) → by-table p ≡ if (dark x d) NotDriven (by-table p)
       chosen p = rw bright

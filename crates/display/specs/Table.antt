@@ -1,4 +1,4 @@
--- The pins of a cathode by the wiring table and its lit segments as one number, equal to those pin by pin.
+-- Auxiliary: the pins of a cathode by the wiring table and its lit segments as one number, equal to those pin by pin.
 -- Assumes nothing.
 use Prim.Native.Nat.{ℕ, _+_, _<_}
 use mathlib.Core.Bool.{Bool}

@@ -1,17 +1,20 @@
 // What a cathode of one MAX6954 shows.
 ghost use mathlib.Core.Path.{_≡_};
-ghost use Prim.Native.Nat.{_<_};
-ghost use lib.ListN.{getD};
+ghost use Prim.Native.Nat.{_*_, _<_};
 ghost use Rattle.words.specs.Choice.{bit};
 ghost use Rattle.words.specs.Lists.{tabulate};
 ghost use Rattle.blink.specs.Part.{planePart};
 ghost use Rattle.device.specs.Steps.{shownPlane};
-ghost use Rattle.display.specs.Cathode.{displayBy, shownByte};
+ghost use Rattle.wiring.specs.Packed.{byteOf};
+ghost use Rattle.display.specs.Cathode.{displayBy};
 ghost use Rattle.display.specs.Pins.{pinNumber, segmentsNumber, pinAt, segmentsOf};
-ghost use Rattle.display.specs.Table.{shownSegments, pinBy, PinByPin};
+ghost use Rattle.display.specs.Table.{shownSegments, PinByPin};
+ghost use Rattle.display.specs.Packed.{ones, carriedBy, nonzeroBytes, eightPins, wordAt, pinsOf, pinsBy};
 ghost use Rattle.display.specs.Examples.{Examples};
 use device::Device;
 use wiring::Display;
+use wiring::PackedPins;
+use wiring::PackedRow;
 
 // A pin of a cathode.
 pub enum Pin {
@@ -46,6 +49,11 @@ pub struct SegmentAnswer {
 
 // Seventeen bits: every segment that a display may have.
 const ALL_SEGMENTS: u32 = 0x1FFFF;
+
+// 1 in each byte of a word, and 127 in each.
+const ONES: u64 = 0x0101010101010101;
+
+const SEVEN_BITS: u64 = 0x7F7F7F7F7F7F7F7F;
 
 // Bit k of v is 1.
 fn bit_at(v: u32, k: usize) -> bool
@@ -91,47 +99,82 @@ fn shown_segments(
     }
 }
 
-// A pin by its entry of the wiring table.
-fn pin_by(segments: u32, entry: u8) -> Pin
-    ensures { λ r. ⌜ r ≡ pinBy segments entry ⌝ }
+// Byte i of a word, the lowest being byte 0.
+fn byte_of(word: u64, i: usize) -> u8
+    requires { ⌜ i < 8 ⌝ }
+    ensures { λ r. ⌜ r ≡ byteOf word i ⌝ }
 {
-    if entry < 17 {
-        if bit_at(segments, entry as usize) {
-            Pin::Lit
-        } else {
-            Pin::Unlit
-        }
-    } else if entry == wiring::NONE {
-        Pin::NoSegment
-    } else if entry == wiring::CATHODE {
-        Pin::Cathode
+    ((word >> (8 * i)) % 256) as u8
+}
+
+// Byte i of a word, eight times.
+fn repeated(word: u64, i: usize) -> u64
+    requires { ⌜ i < 8 ⌝ }
+    ensures { λ r. ⌜ r ≡ byteOf word i * ones ⌝ }
+{
+    byte_of(word, i) as u64 * ONES
+}
+
+// Those of some segments that eight pins carry: a pin's byte has the bit of its segment.
+fn carried(segments: u64, pins: PackedPins) -> u64
+    ensures { λ r. ⌜ r ≡ carriedBy segments pins ⌝ }
+{
+    let low = repeated(segments, 0) & pins.low;
+    let high = repeated(segments, 1) & pins.high;
+    let point = repeated(segments, 2) & pins.point;
+    low | high | point
+}
+
+// 1 in each byte that isn't 0.
+fn nonzero_bytes(word: u64) -> u64
+    ensures { λ r. ⌜ r ≡ nonzeroBytes word ⌝ }
+{
+    let marked = ((word & SEVEN_BITS) + SEVEN_BITS) | word;
+    (marked >> 7) & ONES
+}
+
+// Eight pins by their numbers. That of an unlit segment is one above that of a lit one.
+fn eight_pins(unlit: u64, pins: PackedPins) -> u64
+    ensures { λ r. ⌜ r ≡ eightPins unlit pins ⌝ }
+{
+    pins.lit | nonzero_bytes(carried(unlit, pins))
+}
+
+// The one of three words that has pin p.
+fn word_at(first: u64, middle: u64, last: u64, p: usize) -> u64
+    ensures { λ r. ⌜ r ≡ wordAt first middle last p ⌝ }
+{
+    if p < 8 {
+        first
+    } else if p < 16 {
+        middle
     } else {
-        Pin::NotDriven
+        last
     }
 }
 
-// The pins of a cathode by its row of the wiring table.
-fn pins_by(segments: u32, wires: [u8; 19]) -> [u8; 19]
-    ensures { λ r. ⌜ r ≡ tabulate 19 (λ p. pinNumber (pinBy segments (getD wires p 0))) ⌝ }
+// The pins O0 to O18 of three words.
+fn pins_of(first: u64, middle: u64, last: u64) -> [u8; 19]
+    ensures { λ r. ⌜ r ≡ pinsOf first middle last ⌝ }
 {
     let mut pins = [0; 19];
     let mut p = 0;
     while p < 19 {
-        let entry = wires[p];
-        let pin = pin_by(segments, entry);
-        pins[p] = pin.number();
+        let word = word_at(first, middle, last, p);
+        pins[p] = byte_of(word, p % 8);
         p += 1;
     }
     pins
 }
 
-// The byte that a digit shows.
-fn byte_shown(device: Device, digit: u8) -> u8
-    ensures { λ r. ⌜ r ≡ shownByte device digit ⌝ }
+// The pins of a cathode by its packed row and the segments that aren't lit.
+fn pins_by(unlit: u64, row: PackedRow) -> [u8; 19]
+    ensures { λ r. ⌜ r ≡ pinsBy unlit row ⌝ }
 {
-    let planes = device.registers.planes;
-    let plane = device.shown();
-    planes.digit(plane, digit)
+    let first = eight_pins(unlit, row.first);
+    let middle = eight_pins(unlit, row.middle);
+    let last = eight_pins(unlit, row.last);
+    pins_of(first, middle, last)
 }
 
 // The pins of a cathode under two glyph tables.
@@ -143,8 +186,10 @@ fn pins_shown(device: Device, cathode: usize, font14: &[u16], font16: &[u16]) ->
         return [0; 19];
     }
     let digit = cathode as u8;
-    let byte = byte_shown(device, digit);
-    let a = byte_shown(device, digit + 8);
+    let planes = device.registers.planes;
+    let plane = device.shown();
+    let byte = planes.digit(plane, digit);
+    let a = planes.digit(plane, digit + 8);
     let controls = device.registers.controls;
     let display = display_by(controls.types, device.fitted, cathode);
     let hex = bit_at(controls.decode as u32, cathode);
@@ -157,8 +202,8 @@ fn pins_shown(device: Device, cathode: usize, font14: &[u16], font16: &[u16]) ->
         byte,
         a,
     );
-    let wires = wiring::wires(display, cathode);
-    pins_by(segments, wires)
+    let row = wiring::packed_row(display, cathode);
+    pins_by(!(segments as u64), row)
 }
 
 // 6 for a cathode above 7 or a glyph table not 128 long, else 0.

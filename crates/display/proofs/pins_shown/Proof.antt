@@ -19,14 +19,17 @@ returns c =
 cast-digit : tie.Need-cast-digit
 cast-digit c = search needs
 
-byte-shown-requires : tie.Need-byte-shown-requires
-byte-shown-requires c κs = search needs
+shown-requires : tie.Need-shown-requires
+shown-requires c κs = search needs
 
-add-byte-shown : tie.Need-add-byte-shown
-add-byte-shown c = search needs
+digit-requires : tie.Need-digit-requires
+digit-requires c κs = search needs
 
-byte-shown-requires-2 : tie.Need-byte-shown-requires-2
-byte-shown-requires-2 c κs = search needs
+add-digit : tie.Need-add-digit
+add-digit c = search needs
+
+digit-requires-2 : tie.Need-digit-requires-2
+digit-requires-2 c κs = search needs
 
 display-by-requires : tie.Need-display-by-requires
 display-by-requires c κs = search needs
@@ -40,8 +43,11 @@ bit-at-requires c κs = search needs
 shown-segments-requires : tie.Need-shown-segments-requires
 shown-segments-requires c κs = search needs
 
-wires-requires : tie.Need-wires-requires
-wires-requires c κs = search needs
+packed-row-requires : tie.Need-packed-row-requires
+packed-row-requires c κs = search needs
+
+cast-pins-by : tie.Need-cast-pins-by
+cast-pins-by c = search needs
 
 pins-by-requires : tie.Need-pins-by-requires
 pins-by-requires c κs = search needs
@@ -51,25 +57,28 @@ returns-2 c =
     let lit = c .before .before in
     let shown = lit .before .before .before .before in
     let bytes = shown .before .before .before in
-    let start = bytes .before .before .before .before .before in
+    let dark = bytes .before .before .before in
+    let start = dark .before .before .before .before in
     let a = start .args in
-    let byte = bytes .byte-shown in
-    let byte-a = shown .before .before .byte-shown2 in
+    let plane = bytes .before .shown .ensures in
+    let byte = rw plane at (bytes .digit .ensures) in
+    let byte-a = rw plane at (shown .before .before .digit2 .ensures) in
     let display = shown .display-by .ensures in
     c .pins-by .ensures
     ∙ pins-lit (a .device) (a .cathode) (a .font14 .now) (a .font16 .now)
-    (omega (arith, byte .ok, byte .ensures))
-    (omega (arith, byte-a .ok, byte-a .ensures))
-    (λ i. bytes .before .before .before .before .shared-slice-known .given i .fits)
-    (λ i. bytes .before .before .before .shared-slice-known2 .given i .fits)
+    (omega (arith, bytes .digit .ok, byte))
+    (omega (arith, shown .before .before .digit2 .ok, byte-a))
+    (λ i. dark .before .before .before .shared-slice-known .given i .fits)
+    (λ i. dark .before .before .shared-slice-known2 .given i .fits)
     (start .pre)
     _
     _
     _
-    (sym (bytes .before .before .is-dark .ensures) ∙ bytes .before .if1 .left)
+    (omega (arith, lit .shown-segments .ok))
+    (sym (dark .before .is-dark .ensures) ∙ dark .if1 .left)
     display
-    (lit .shown-segments .ensures ∙ rw (byte .ensures, byte-a .ensures, display, lit .before .before .bit-at .ensures))
-    (c .before .wires .ensures)
+    (lit .shown-segments .ensures ∙ rw (byte, byte-a, display, lit .before .before .bit-at .ensures))
+    (c .before .packed-row .ensures)
 
 pub pins-shown-spec : {M : Type 1} → statement M
 pins-shown-spec =
@@ -78,13 +87,15 @@ pins-shown-spec =
     is-dark-requires
     returns
     cast-digit
-    byte-shown-requires
-    add-byte-shown
-    byte-shown-requires-2
+    shown-requires
+    digit-requires
+    add-digit
+    digit-requires-2
     display-by-requires
     cast-bit-at
     bit-at-requires
     shown-segments-requires
-    wires-requires
+    packed-row-requires
+    cast-pins-by
     pins-by-requires
     returns-2)

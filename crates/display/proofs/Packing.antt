@@ -1,0 +1,186 @@
+-- A pin's byte of a packed row and the segments that aren't lit is the number of the pin by the wiring table.
+-- Assumes nothing.
+use Prim.Native.Nat.{ℕ, zero, suc, _+_, _-_, _*_, _/_, _%_, _^_, _<_}
+use native.Mathlib.Omega.{arith}
+use mathlib.Core.Bool.{Bool, true, false, not, _&&_, _||_, Bool·beq}
+use mathlib.Core.Path.{_≡_, refl, ap, sym, _∙_}
+use lib.Bits.{bitAnd, bitOr, and-le-r, and-zero-r, or-zero-l, or-zero-r, and-mask}
+use lib.Dec.{eqb, ltb}
+use borrow.Author.Tests.{eqb-true, lt-ltb, ltb-true, ltb-false}
+use Rattle.words.specs.Choice.{if, bit}
+use Rattle.words.proofs.Below.{all, all-at}
+use Rattle.words.proofs.Bits.{low-bit, high-bit, not-bit}
+use Rattle.words.proofs.Truth.{same}
+use Rattle.wiring.specs.Wiring.{Segment, isSegment, none, glyph, point, first, second, Wire, cathode, notDriven, carries, wireAt}
+use Rattle.wiring.specs.Table.{segmentEntry, wireEntry}
+use Rattle.wiring.specs.Packed.{byteOf, packed, litNumber, entryBit, packedWires, packedPins}
+use Rattle.wiring.specs.declared.Display.{Display}
+use Rattle.wiring.specs.declared.Display.the-variants.{Sixteen, Fourteen, SevenPair}
+use Rattle.wiring.proofs.Bytes.{byte-packed, byte-and, byte-or, byte-add, byte-shifted, byte-repeated}
+use Rattle.display.specs.Pins.{pinNumber}
+use Rattle.display.specs.declared.Pin.the-variants.{Lit, Unlit}
+use Rattle.display.specs.Table.{pinBy}
+use Rattle.display.specs.Packed.{ones, sevenBits, carriedBy, nonzeroBytes, eightPins, wordAt}
+
+-- a byte that is not 0, marked in its highest bit
+marked : (v : ℕ) → v < 256 → bitOr (bitAnd v 127 + 127) v / 128 ≡ if (eqb v 0) 0 1
+marked v h = eqb-true _ _ (all-at (λ u. eqb (bitOr (bitAnd u 127 + 127) u / 128) (if (eqb u 0) 0 1)) 256 refl v h)
+
+seven-bits : (w i : ℕ) → i < 8 → byteOf (bitAnd w sevenBits) i ≡ bitAnd (byteOf w i) 127
+seven-bits w i h = byte-and i w sevenBits ∙ ap (bitAnd (byteOf w i)) (byte-repeated 127 i (omega arith) h)
+
+added : (w i : ℕ) → i < 8 → byteOf (bitAnd w sevenBits + sevenBits) i ≡ bitAnd (byteOf w i) 127 + 127
+added w i h =
+    byte-add 8 i (bitAnd w sevenBits) sevenBits h
+    (λ j l. rw (seven-bits w j l, byte-repeated 127 j (omega arith) l) (omega (arith, and-le-r (byteOf w j) 127)))
+    ∙ rw (seven-bits w i h, byte-repeated 127 i (omega arith) h)
+
+nonzero : (w i : ℕ) → i < 8 → byteOf (nonzeroBytes w) i ≡ if (eqb (byteOf w i) 0) 0 1
+nonzero w i h =
+    let x = bitOr (bitAnd w sevenBits + sevenBits) w in
+    byte-and i (x / 2 ^ 7) ones
+    ∙ rw (byte-repeated 1 i (omega arith) h, and-mask (byteOf (x / 2 ^ 7) i) 1, byte-shifted i x, byte-or, added w i h)
+    (marked (byteOf w i) (omega arith))
+
+-- entry n among the three bytes of some segments
+abbrev picked : ℕ → ℕ → ℕ
+picked u n =
+    bitOr (bitOr (bitAnd (byteOf u 0) (entryBit 0 n)) (bitAnd (byteOf u 1) (entryBit 1 n))) (bitAnd (byteOf u 2) (entryBit 2 n))
+
+-- what is packed are bytes
+small-bit : (g n : ℕ) → entryBit g n < 256
+small-bit g n = go (ltb n 17 && eqb (n / 8) g)
+  where
+    go : (b : Bool) → if b (2 ^ (n % 8)) 0 < 256
+    go true = ltb-true _ _ (all-at (λ k. ltb (2 ^ k) 256) 8 refl (n % 8) (omega arith))
+    go false = omega arith
+
+small-number : (w : Wire) → litNumber w < 256
+small-number cathode = omega arith
+small-number notDriven = omega arith
+small-number (carries s) = go (isSegment s)
+  where
+    go : (b : Bool) → if b 2 4 < 256
+    go true = omega arith
+    go false = omega arith
+
+-- the byte of a pin, by what the pin is to the cathode
+module _ (u i : ℕ) (wire : ℕ → Wire) (h : i < 8) where
+  bits : (g : ℕ) → byteOf (packed 8 (λ j. entryBit g (wireEntry (wire j)))) i ≡ entryBit g (wireEntry (wire i))
+  bits g = byte-packed 8 i (λ j. entryBit g (wireEntry (wire j))) (λ j. small-bit g (wireEntry (wire j))) h
+
+  carried : byteOf (carriedBy u (packedWires 8 wire)) i ≡ picked u (wireEntry (wire i))
+  carried =
+      rw (
+        byte-or,
+        byte-or,
+        byte-and,
+        byte-and,
+        byte-and,
+        byte-repeated (byteOf u 0) i (omega arith) h,
+        byte-repeated (byteOf u 1) i (omega arith) h,
+        byte-repeated (byteOf u 2) i (omega arith) h,
+        bits 0,
+        bits 1,
+        bits 2,
+      )
+
+  eight : byteOf (eightPins u (packedWires 8 wire)) i ≡ bitOr (litNumber (wire i)) (if (eqb (picked u (wireEntry (wire i))) 0) 0 1)
+  unfolding eightPins
+  eight =
+      rw (byte-or, byte-packed 8 i (λ j. litNumber (wire j)) (λ j. small-number (wire j)) h, nonzero _ i h, carried)
+
+-- a bit of a byte, by the mask that has it alone
+abbrev tested : ℕ → ℕ → Bool
+tested v j = Bool·beq (eqb (bitAnd v (2 ^ j)) 0) (not (bit j v))
+
+masked : (v j : ℕ) → v < 256 → j < 8 → eqb (bitAnd v (2 ^ j)) 0 ≡ not (bit j v)
+masked v j hv hj = same _ _ (all-at (tested v) 8 (all-at (λ u. all (tested u) 8) 256 refl v hv) j hj)
+
+-- of three bytes only byte a has a mask
+one-byte : (u m a : ℕ) → a < 3
+    → bitOr (bitOr (bitAnd (byteOf u 0) (if (eqb a 0) m 0)) (bitAnd (byteOf u 1) (if (eqb a 1) m 0))) (bitAnd (byteOf u 2) (if (eqb a 2) m 0))
+    ≡ bitAnd (byteOf u a) m
+one-byte u m zero h = simp (and-zero-r, or-zero-r)
+one-byte u m (suc zero) h = simp (and-zero-r, or-zero-r, or-zero-l)
+one-byte u m (suc (suc zero)) h = simp (and-zero-r, or-zero-r, or-zero-l)
+one-byte u m (suc (suc (suc a))) h = absurd (omega arith)
+
+-- bit n of a number, in its byte
+byte-bit : (u n : ℕ) → bit (n % 8) (byteOf u (n / 8)) ≡ bit n u
+byte-bit u n =
+    let e : n % 8 + 8 * (n / 8) ≡ n = omega arith in
+    low-bit 8 (n % 8) (u / 2 ^ (8 * (n / 8))) (omega arith) ∙ sym (high-bit (8 * (n / 8)) (n % 8) u) ∙ rw e
+
+-- entry n is among some segments where its bit is set
+picked-bit : (u n : ℕ) → n < 17 → eqb (picked u n) 0 ≡ not (bit n u)
+picked-bit u n h =
+    rw (lt-ltb n 17 h, one-byte u (2 ^ (n % 8)) (n / 8) (omega arith))
+    (masked (byteOf u (n / 8)) (n % 8) (omega arith) (omega arith) ∙ ap not (byte-bit u n))
+
+-- none, or a segment with a bit
+abbrev pub numbered : Segment → Bool
+numbered s = not (isSegment s) || ltb (segmentEntry s) 17
+
+-- a pin that carries one of these, or no segment
+abbrev numbered-wire : Wire → Bool
+numbered-wire cathode = true
+numbered-wire notDriven = true
+numbered-wire (carries s) = numbered s
+
+-- the number of a pin, by the segments that aren't lit, is its number by those that are
+module _ (segments : ℕ) (hs : segments < 2 ^ 64) where
+  abbrev unlit : ℕ
+  unlit = 2 ^ 64 - 1 - segments
+
+  abbrev number : ℕ → ℕ → ℕ
+  number lit n = bitOr lit (if (eqb (picked unlit n) 0) 0 1)
+
+  segment-pin : (n : ℕ) → ltb n 17 ≡ true → number 2 n ≡ pinNumber (pinBy segments n)
+  segment-pin n e =
+      let h = ltb-true n 17 e in
+      rw (picked-bit unlit n h, not-bit 64 n segments (omega arith) hs, e) (go (bit n segments))
+    where
+      go : (b : Bool) → bitOr 2 (if (not (not b)) 0 1) ≡ pinNumber (if b Lit Unlit)
+      go true = refl
+      go false = refl
+
+  wire-pin : (w : Wire) → numbered-wire w ≡ true → number (litNumber w) (wireEntry w) ≡ pinNumber (pinBy segments (wireEntry w))
+  wire-pin cathode e = simp and-zero-r
+  wire-pin notDriven e = simp and-zero-r
+  wire-pin (carries none) e = simp and-zero-r
+  wire-pin (carries (glyph n)) e = segment-pin n e
+  wire-pin (carries point) e = segment-pin 16 e
+  wire-pin (carries (first n)) e = segment-pin n e
+  wire-pin (carries (second n)) e = segment-pin (n + 8) e
+
+-- every pin of a cathode is one of these
+tested-wires : (k : Display) → all (λ d. all (λ p. numbered-wire (wireAt k d p)) 19) 8 ≡ true
+tested-wires Sixteen = refl
+tested-wires Fourteen = refl
+tested-wires SevenPair = refl
+
+wire-numbered : (k : Display) (d p : ℕ) → d < 8 → p < 19 → numbered-wire (wireAt k d p) ≡ true
+wire-numbered k d p hd hp =
+    all-at (λ r. numbered-wire (wireAt k d r)) 19 (all-at (λ c. all (λ r. numbered-wire (wireAt k c r)) 19) 8 (tested-wires k) d hd) p hp
+
+-- a pin of a packed row
+module _ (k : Display) (d p segments : ℕ) (hd : d < 8) (hp : p < 19) (hs : segments < 2 ^ 64) where
+  abbrev word : ℕ → ℕ
+  word q = eightPins (2 ^ 64 - 1 - segments) (packedPins k d q)
+
+  abbrev by-table : ℕ
+  by-table = pinNumber (pinBy segments (wireEntry (wireAt k d p)))
+
+  in-word : (q : ℕ) → q + p % 8 ≡ p → byteOf (word q) (p % 8) ≡ by-table
+  in-word q e =
+      eight (2 ^ 64 - 1 - segments) (p % 8) (λ i. wireAt k d (q + i)) (omega arith)
+      ∙ rw e (wire-pin segments hs (wireAt k d p) (wire-numbered k d p hd hp))
+
+  pub row-pin : byteOf (wordAt (word 0) (word 8) (word 16) p) (p % 8) ≡ by-table
+  row-pin = go (ltb p 8) (ltb p 16) refl refl
+    where
+      go : (a b : Bool) → ltb p 8 ≡ a → ltb p 16 ≡ b → byteOf (if a (word 0) (if b (word 8) (word 16))) (p % 8) ≡ by-table
+      go true b e f = in-word 0 (omega (arith, ltb-true p 8 e))
+      go false true e f = in-word 8 (omega (arith, ltb-false p 8 e, ltb-true p 16 f))
+      go false false e f = in-word 16 (omega (arith, ltb-false p 16 f))

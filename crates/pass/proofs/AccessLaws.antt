@@ -128,7 +128,7 @@ module _ (ds : List Device) (c : ℕ) (sent room : List ℕ) where
         rw (all, back, ← access-number, z)
 
     -- the same where all the records are passed, and all take a word
-    pub access-whole : record { number = 0; records = takenTo ds (wordsAfter (wordsTo ds zeros n) n c sent room) n; back = roomAfter (wordsTo ds zeros n) n c sent room } ≡ outcome (access c sent room) ds
+    pub access-whole : outcome (access c sent room) ds ≡ record { number = 0; records = takenTo ds (wordsAfter (wordsTo ds zeros n) n c sent room) n; back = roomAfter (wordsTo ds zeros n) n c sent room }
     access-whole =
         let long : n ≤ length next = omega (arith, length-next, short first-is-zero) in
         let room-is : inRoom n (length next) ≡ n = ap (λ (b : Bool). if b n 0) (le-leb n (length next) long) in

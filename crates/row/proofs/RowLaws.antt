@@ -166,7 +166,7 @@ module _ (r : Row) (c : ℕ) (sent room : List ℕ) (k : ℕ) (e : k ≡ numberO
       → (record { number = 0; row = record { n = r .n; devices = takenTo (r .devices) (wordsAfter words n c sent room) n } } ≡ doneOn r (access c sent room))
       × (roomAfter words n c sent room ≡ replyOn r (access c sent room))
   access-done z =
-      let whole = access-whole (records r) c sent room (access-number (records r) c sent room ∙ sym e ∙ z) in (
+      let whole = sym (access-whole (records r) c sent room (access-number (records r) c sent room ∙ sym e ∙ z)) in (
         rw (part-taken, part-words) (ap (λ (o : Outcome). record { number = o .number; row = record { n = r .n; devices = o .records ++ drop (r .n) (r .devices) } }) whole),
         rw part-words (ap (λ (o : Outcome). o .back) whole),
       )

@@ -120,7 +120,7 @@ unpack-three l q h =
     let h0 : q < length l = omega arith in
     let h1 : suc q < length l = omega arith in
     let h2 : suc (suc q) < length l = omega arith in
-    simp (add-one, add-two, add-three) (rw (drop-cons l q 0, drop-cons l (suc q) 0, drop-cons l (suc (suc q)) 0, append-assoc, append-assoc))
+    simp (add-one, add-two, add-three) (rw (drop-cons l q 0, drop-cons l (suc q) 0, drop-cons l (suc (suc q)) 0) (simp append-assoc))
 
 -- 16 bits from bit o on are bits of three bytes, of which the third may be past the end
 pub window-at : (l : List ℕ) (o : ℕ) → o + 16 ≤ 8 * length l
@@ -144,7 +144,7 @@ cut-bytes m c s r h k =
     let front : (t : List ℕ) → take c (unpack (take m s ++ t)) ≡ take c (unpack (take m s)) = λ t. rw (unpack-append, take-append-le c (unpack (take m s)) (unpack t) l) in
     front r ∙ sym (front (drop m s)) ∙ rw take-append-drop
 
--- nor are they after the packed ones
+-- the first bytes of a row, with others after them, cleared
 pub clear-front : (c : ℕ) (s r : List ℕ) → bytesFor c ≤ length s
     → pack (take c (unpack (take (bytesFor c) s ++ r))) ++ drop (bytesFor c) (take (bytesFor c) s ++ r) ≡ pack (take c (unpack s)) ++ r
 clear-front c s r h =

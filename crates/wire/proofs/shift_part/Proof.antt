@@ -49,17 +49,16 @@ same-length-2 c = search needs
 
 returns : tie.Need-returns
 returns c =
-    let ww = c .before .before .write-words in
-    let t = c .before .before .before .before .before .before .before in
-    let u = t .before .before .before .before in
-    let v = u .before .before .before .before in
-    let w = v .before .before .before in
-    let s = w .before .before .before .before .before .before in
-    let a = s .args in
+    let cleared = c .before .before .before .before .before .before .before in
+    let answered = cleared .before .before .before .before in
+    let copied = answered .before .before .before .before in
+    let written = copied .before .before .before in
+    let start = written .before .before .before .before .before .before in
+    let a = start .args in
     let ws = take (a .n) (a .words .now) in
-    let count : length ws ≡ a .n = length-take-le (a .n) (a .words .now) (s .pre .1) in (
-      ww .ensures ∙ rw (line-words ws (a .sent .now) (a .n) (a .clocks) count (s .pre .3) _ _ _ (w .write-bytes .ensures) (v .copy-bytes .ensures) (omega arith)),
-      t .clear-spare .ensures ∙ line-answer ws (a .sent .now) (a .n) (a .clocks) count (s .pre .3) _ _ _ (w .write-bytes .ensures) (v .copy-bytes .ensures) (omega arith) (a .room .now) _ (u .copy-bytes2 .ensures),
+    let count : length ws ≡ a .n = length-take-le (a .n) (a .words .now) (start .pre .1) in (
+      rw (line-words ws (a .sent .now) (a .n) (a .clocks) count (start .pre .3) _ _ _ (written .write-bytes .ensures) (copied .copy-bytes .ensures) (omega arith)) (c .before .before .write-words .ensures),
+      cleared .clear-spare .ensures ∙ line-answer ws (a .sent .now) (a .n) (a .clocks) count (start .pre .3) _ _ _ (written .write-bytes .ensures) (copied .copy-bytes .ensures) (omega arith) (a .room .now) _ (answered .copy-bytes2 .ensures),
     )
 
 pub shift-part-spec : {M : Type 1} → statement M

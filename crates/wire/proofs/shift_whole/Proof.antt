@@ -45,16 +45,15 @@ same-length-2 c = search needs
 
 returns : tie.Need-returns
 returns c =
-    let ww = c .before .before .write-words in
-    let t = c .before .before .before .before .before .before in
-    let u = t .before .before .before .before in
-    let v = u .before .before .before .before in
-    let s = v .before .before .before .before .before .before in
-    let a = s .args in
+    let cleared = c .before .before .before .before .before .before in
+    let copied = cleared .before .before .before .before in
+    let written = copied .before .before .before .before in
+    let start = written .before .before .before .before .before .before in
+    let a = start .args in
     let ws = take (a .n) (a .words .now) in
-    let count : length ws ≡ a .n = length-take-le (a .n) (a .words .now) (s .pre .1) in (
-      ww .ensures ∙ rw (sent-words ws (a .sent .now) (a .n) (a .clocks) count (s .pre .3) (s .pre .2)),
-      t .clear-spare .ensures ∙ whole-answer ws (a .sent .now) (a .n) (a .clocks) count (s .pre .3) (s .pre .2) (a .room .now) _ _ (v .write-bytes .ensures) (u .copy-bytes .ensures),
+    let count : length ws ≡ a .n = length-take-le (a .n) (a .words .now) (start .pre .1) in (
+      rw (sent-words ws (a .sent .now) (a .n) (a .clocks) count (start .pre .3) (start .pre .2)) (c .before .before .write-words .ensures),
+      cleared .clear-spare .ensures ∙ whole-answer ws (a .sent .now) (a .n) (a .clocks) count (start .pre .3) (start .pre .2) (a .room .now) _ _ (written .write-bytes .ensures) (copied .copy-bytes .ensures),
     )
 
 pub shift-whole-spec : {M : Type 1} → statement M

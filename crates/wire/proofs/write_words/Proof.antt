@@ -4,11 +4,11 @@ use native.Mathlib.Omega.{arith}
 use mathlib.Core.List.{_++_}
 use mathlib.Core.Path.{_≡_, refl, _∙_}
 use lib.ListN.{length, drop, length-set}
-use lib.Seq.{drop-drop}
 use Rattle.words.specs.Lists.{tabulate}
 use Rattle.words.proofs.Lists.{tabulate-none, tabulate-more}
 use Rattle.wire.specs.Bits.{unpack, wordAt}
 use Rattle.wire.specs.Wire.{words}
+use Rattle.wire.proofs.BitLaws.{word-drop}
 use Rattle.wire.proofs.write_words.Statement.{statement}
 use Rattle.wire.proofs.write_words.Tie as tie
 
@@ -50,13 +50,13 @@ loop-less : tie.Need-loop-less Inv-loop μ-loop
 loop-less c = omega arith
 
 loop-again : tie.Need-loop-again Inv-loop μ-loop
-unfolding wordAt
 loop-again c =
     let a = c .before .before .before .before .before .args in
-    let l = c .before .before .loop in (
+    let l = c .before .before .loop in
+    let w = c .word-from .ensures ∙ word-drop (a .bit) (a .n - 1 - l .i) (unpack (a .bytes .now)) in (
       omega arith,
       simp length-set (l .inv .1),
-      rw (c .word-from .ensures, ← drop-drop, l .inv .2) (tabulate-more (l .i) _ (a .next .now) (omega arith)),
+      rw (w, l .inv .2) (tabulate-more (l .i) _ (a .next .now) (omega arith)),
     )
 
 same-length : tie.Need-same-length Inv-loop μ-loop

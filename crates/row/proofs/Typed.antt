@@ -1,15 +1,15 @@
 -- What the types of a row and of its records say of their values.
 --     sixteen        a row has sixteen records
---     all-bytes      the bytes of sixteen records are bytes
+--     all-bytes      and their bytes are bytes
 --     default        an element, whatever is read past the end
 -- Assumes nothing.
 use Prim.Native.Nat.{ℕ, zero, suc, _<_}
 use native.Mathlib.Nat.{le-of-suc-le-suc, not-suc-le-zero}
-use mathlib.Core.List.{List, [], _∷_}
+use mathlib.Core.List.{List, [], _∷_, map}
 use mathlib.Core.Path.{_≡_, refl, sym, _∙_}
 use lib.ListN.{length, getD, take, length-map}
 use mir.Val.{Val}
-use denote.Array.{Array, each}
+use denote.Array.{each}
 use denote.Laws.{Is}
 use denote.Shadow.{shadow}
 use denote.Struct.Declared as Declared
@@ -28,8 +28,14 @@ use Rattle.row.specs.declared.Row.{Row}
 use Rattle.row.proofs.Row as Chain
 use Rattle.row.proofs.Row.Laws as Chain′
 
+-- what a row's type says of its records
+records-are : (r : Row) (vs : List Val) → Is (Declared.row Chain.the-type) r vs → (us : List Val) × (length (r .devices) ≡ 16) × shadow (each (Driver.the-field .row .Denot) (Driver.the-field .row .own) (map (Driver.the-field .into) (r .devices)) us)
+records-are r vs is =
+    let x = owed Chain.the-type Chain′.the-laws r vs is .1 .0 in
+    (x .0, sym (length-map (r .devices) _) ∙ x .1 .0 .1, x .1 .1)
+
 pub sixteen : (r : Row) (vs : List Val) → Is (Declared.row Chain.the-type) r vs → length (r .devices) ≡ 16
-sixteen r vs is = sym (length-map (r .devices) _) ∙ owed Chain.the-type Chain′.the-laws r vs is .1 .0 .1 .0 .1
+sixteen r vs is = records-are r vs is .1
 
 bytes-of : (d : Device) (vs : List Val) → Is (Declared.row Driver.the-type) d vs → Bytes d
 bytes-of d vs is =
@@ -49,11 +55,11 @@ bytes-of d vs is =
       s = f .1 .1 .1 .0 .1;
     }
 
-pub all-bytes : (ds : List Device) (vs : List Val) → Is (Array (Declared.row Driver.the-type) 16) ds vs → (n : ℕ) → AllBytes (take n ds)
+pub all-bytes : (r : Row) (vs : List Val) → Is (Declared.row Chain.the-type) r vs → (n : ℕ) → AllBytes (take n (r .devices))
 unfolding AllBytes
-all-bytes ds vs is n = go ds (is .0) (is .1 .1) n
+all-bytes r vs is n = go (r .devices) (records-are r vs is .0) (records-are r vs is .2) n
   where
-    go : (xs : List Device) (us : List Val) → shadow (each Device (Declared.row Driver.the-type .own) xs us) → (n : ℕ) → AllBytes (take n xs)
+    go : (xs : List Device) (us : List Val) → shadow (each (Driver.the-field .row .Denot) (Driver.the-field .row .own) (map (Driver.the-field .into) xs) us) → (n : ℕ) → AllBytes (take n xs)
     go xs us s zero = tt
     go [] us s (suc n) = tt
     go (x ∷ xs) [] s (suc n) = absurd s

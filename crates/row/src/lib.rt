@@ -25,50 +25,6 @@ pub struct Done {
     pub row: Row,
 }
 
-// What the first n of sixteen records tell of soundness.
-fn widths(devices: [Device; 16], n: usize) -> Widths
-    requires { ⌜ n ≤ 16 ⌝ }
-    ensures { λ r. ⌜ fit r ≡ allSound (take n devices) ⌝ }
-{
-    let mut w = Widths::new();
-    let mut i = 0;
-    while i < n {
-        let passed = devices[i];
-        w = w.with(passed);
-        i += 1;
-    }
-    w
-}
-
-// The shift words of the first n of sixteen records, then 0.
-fn shift_words(devices: [Device; 16], n: usize) -> [u16; 16]
-    requires { ⌜ n ≤ 16 ⌝ }
-    ensures { λ r. ⌜ r ≡ wordsTo devices (replicate 16 0) n ⌝ }
-{
-    let mut words = [0; 16];
-    let mut k = 0;
-    while k < n {
-        let d = devices[k];
-        words[k] = d.shift;
-        k += 1;
-    }
-    words
-}
-
-// Sixteen records of which the first n took their words.
-fn all_taken(mut devices: [Device; 16], n: usize, words: [u16; 16]) -> [Device; 16]
-    requires { ⌜ n ≤ 16 ⌝ }
-    ensures { λ r. ⌜ r ≡ takenTo devices words n ⌝ }
-{
-    let mut at = 0;
-    while at < n {
-        let old = devices[at];
-        devices[at] = old.taken(words[at]);
-        at += 1;
-    }
-    devices
-}
-
 impl Row {
     // A chain of n drivers at power-up.
     pub fn new(n: usize) -> Row
@@ -88,13 +44,27 @@ impl Row {
         if self.n < 16 { self.n } else { 16 }
     }
 
+    // What the first n of sixteen records tell of soundness.
+    fn widths(self, n: usize) -> Widths
+        requires { ⌜ n ≤ 16 ⌝ }
+        ensures { λ r. ⌜ fit r ≡ allSound (take n (self .devices)) ⌝ }
+    {
+        let mut w = Widths::new();
+        let mut i = 0;
+        while i < n {
+            let passed = self.devices[i];
+            w = w.with(passed);
+            i += 1;
+        }
+        w
+    }
+
     // The number of a call, from that by its arguments.
     fn found(self, first: u8) -> u8
         ensures { λ r. ⌜ r ≡ found first (allSound (records self)) ⌝ }
     {
-        let devices = self.devices;
         let n = self.length();
-        let w = widths(devices, pass::to_pass(first, n));
+        let w = self.widths(pass::to_pass(first, n));
         pass::found(first, w)
     }
 
@@ -111,8 +81,7 @@ impl Row {
         requires { ⌜ (1 ≤ driver) × (driver ≤ 16) ⌝ }
         ensures { λ r. ⌜ r ≡ getD (self .devices) (driver - 1) powerUp ⌝ }
     {
-        let records = self.devices;
-        records[driver - 1]
+        self.devices[driver - 1]
     }
 
     // A call that is refused: nothing changes.
@@ -126,18 +95,15 @@ impl Row {
     }
 
     // A call that is served: a driver's record replaced.
-    fn served(self, driver: usize, new: Device) -> Done
+    fn served(mut self, driver: usize, new: Device) -> Done
         requires { ⌜ (1 ≤ driver) × (driver ≤ 16) ⌝ }
         ensures { λ r. ⌜ r ≡ record { number = 0; row = record { n = self .n; devices = set (self .devices) (driver - 1) new } } ⌝ }
     {
-        let mut devices = self.devices;
-        devices[driver - 1] = new;
+        let at = driver - 1;
+        self.devices[at] = new;
         Done {
             number: 0,
-            row: Row {
-                n: self.n,
-                devices: devices,
-            },
+            row: self,
         }
     }
 
@@ -177,6 +143,35 @@ impl Row {
         self.served(driver, old.clocked(clocks))
     }
 
+    // The shift words of the first n of sixteen records, then 0.
+    fn shift_words(self, n: usize) -> [u16; 16]
+        requires { ⌜ n ≤ 16 ⌝ }
+        ensures { λ r. ⌜ r ≡ wordsTo (self .devices) (replicate 16 0) n ⌝ }
+    {
+        let mut words = [0; 16];
+        let mut k = 0;
+        while k < n {
+            let d = self.devices[k];
+            words[k] = d.shift;
+            k += 1;
+        }
+        words
+    }
+
+    // The first n of sixteen records take their words.
+    fn all_taken(mut self, n: usize, words: [u16; 16]) -> Row
+        requires { ⌜ n ≤ 16 ⌝ }
+        ensures { λ r. ⌜ r ≡ record { n = self .n; devices = takenTo (self .devices) words n } ⌝ }
+    {
+        let mut at = 0;
+        while at < n {
+            let old = self.devices[at];
+            self.devices[at] = old.taken(words[at]);
+            at += 1;
+        }
+        self
+    }
+
     // Clocks through the chain: the answer goes to the room, and every driver takes its word.
     pub fn access(self, clocks: usize, sent: &[u8], room: &mut [u8]) -> Done
         ensures { λ r. ⌜ (r ≡ doneOn self (accessCall clocks (now (sent .entry)) (now (room .entry)))) × (now (room .exit) ≡ replyOn self (accessCall clocks (now (sent .entry)) (now (room .entry)))) ⌝ }
@@ -187,16 +182,11 @@ impl Row {
         if number != 0 {
             return self.refused(number);
         }
-        let old = self.devices;
-        let mut words = shift_words(old, n);
+        let mut words = self.shift_words(n);
         wire::shift(&mut words, n, clocks, sent, room);
-        let new = all_taken(old, n, words);
         Done {
             number: 0,
-            row: Row {
-                n: self.n,
-                devices: new,
-            },
+            row: self.all_taken(n, words),
         }
     }
 

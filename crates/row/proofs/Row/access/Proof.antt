@@ -51,10 +51,10 @@ returns-2 : tie.Need-returns-2
 returns-2 c =
     let h = c .before .before .before .before in
     let w = h .before .before .before in
-    let f = w .before .before .before in
+    let f = w .before .before in
     let a = f .before .before .before .before .before .args in
     rw (c .all-taken .ensures, h .shift .ensures .0, h .shift .ensures .1, w .shift-words .ensures, f .before .before .length .ensures .0)
-    (access-done (a .self) (a .clocks) (a .sent .now) (a .room .now) _ (number-is f) (w .before .before .if1 .left))
+    (access-done (a .self) (a .clocks) (a .sent .now) (a .room .now) _ (number-is f) (w .before .if1 .left))
 
 pub access-spec : {M : Type 1} → statement M
 access-spec =

@@ -14,7 +14,7 @@ to-pass-requires : tie.Need-to-pass-requires
 to-pass-requires c κs = search needs
 
 widths-requires : tie.Need-widths-requires
-widths-requires c κs = omega (arith, c .to-pass .ensures, pass-le (c .before .before .before .args .first) (c .before .length .result))
+widths-requires c κs = omega (arith, c .to-pass .ensures, pass-le (c .before .before .args .first) (c .before .length .result))
 
 found-requires : tie.Need-found-requires
 found-requires c κs = search needs
@@ -22,7 +22,7 @@ found-requires c κs = search needs
 returns : tie.Need-returns
 returns c =
     let p = c .before .before in
-    let a = p .before .before .before .args in
+    let a = p .before .before .args in
     c .found .ensures ∙ number-found (a .self) _ (p .before .length .ensures .0) (a .first) _ _ (p .to-pass .ensures) (c .before .widths .ensures)
 
 pub found-spec : {M : Type 1} → statement M

@@ -13,13 +13,13 @@ sub-result c = search needs
 mul-result : tie.Need-mul-result
 mul-result c = search needs
 
-array-copy-out-result : tie.Need-array-copy-out-result
-array-copy-out-result c = search needs
+element-copy-out-result : tie.Need-element-copy-out-result
+element-copy-out-result c = search needs
 
 returns : tie.Need-returns
 returns c =
-    let s = c .before .before in
-    default _ powerUp (s .args .self .devices) (s .args .driver - 1) (omega (arith, sixteen (s .args .self) _ (s .good .0)))
+    let s = c .before in
+    default _ powerUp (s .args .t1 .devices) (s .args .driver - 1) (omega (arith, sixteen (s .args .t1) _ (s .good .0)))
 
 pub named-spec : {M : Type 1} → statement M
-named-spec = tie.close (tie.spec sub-result mul-result array-copy-out-result returns)
+named-spec = tie.close (tie.spec sub-result mul-result element-copy-out-result returns)

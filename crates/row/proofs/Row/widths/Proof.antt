@@ -1,4 +1,4 @@
--- `row::widths` meets its contract. The invariant: the widths of the first i records. Assumes nothing.
+-- `row::Row::widths` meets its contract. The invariant: the widths of the first i records. Assumes nothing.
 use Prim.Native.Nat.{_-_, _≤_, _<_}
 use native.Mathlib.Omega.{arith}
 use mathlib.Core.Path.{_≡_, _∙_}
@@ -7,27 +7,27 @@ use borrow.Author.Needs.{needs}
 use Rattle.device.specs.PowerUp.{powerUp}
 use Rattle.pass.specs.Widths.{noWidths, widthsOf}
 use Rattle.pass.proofs.WidthLaws.{widths-start, widths-more, fit-all}
-use Rattle.row.proofs.Typed.{all-bytes, default}
-use Rattle.row.proofs.widths.Statement.{statement}
-use Rattle.row.proofs.widths.Tie as tie
+use Rattle.row.proofs.Typed.{sixteen, all-bytes, default}
+use Rattle.row.proofs.Row.widths.Statement.{statement}
+use Rattle.row.proofs.Row.widths.Tie as tie
 
 abbrev Inv-loop : tie.InvT-loop
-Inv-loop n devices w₀ i₀ w i = (i ≤ n) × (w ≡ widthsOf noWidths (take i devices))
+Inv-loop n self w₀ i₀ w i = (i ≤ n) × (w ≡ widthsOf noWidths (take i (self .devices)))
 
 abbrev μ-loop : tie.MeasureT-loop
-μ-loop n devices w₀ i₀ w i = n - i
+μ-loop n self w₀ i₀ w i = n - i
 
 new-requires : tie.Need-new-requires Inv-loop μ-loop
 new-requires c κs = search needs
 
 loop-holds : tie.Need-loop-holds Inv-loop μ-loop
-loop-holds c = (omega arith, c .new .ensures ∙ widths-start (c .before .args .t1))
+loop-holds c = (omega arith, c .new .ensures ∙ widths-start (c .before .args .t1 .devices))
 
 mul-passed : tie.Need-mul-passed Inv-loop μ-loop
 mul-passed c = search needs
 
-array-copy-out-passed : tie.Need-array-copy-out-passed Inv-loop μ-loop
-array-copy-out-passed c = search needs
+element-copy-out-passed : tie.Need-element-copy-out-passed Inv-loop μ-loop
+element-copy-out-passed c = search needs
 
 with-requires : tie.Need-with-requires Inv-loop μ-loop
 with-requires c κs = search needs
@@ -41,16 +41,18 @@ loop-less c = omega arith
 loop-again : tie.Need-loop-again Inv-loop μ-loop
 loop-again c =
     let l = c .before .before .before .loop in
-    let a = c .before .before .before .before .before .args in
-    let h : l .i < length (a .t1) = search needs in
-    (omega arith, rw (c .with .ensures, l .inv .1, default _ powerUp (a .t1) (l .i) h) (widths-more (a .t1) (l .i) h))
+    let s = c .before .before .before .before .before in
+    let ds = s .args .t1 .devices in
+    let h : l .i < length ds = omega (arith, sixteen (s .args .t1) _ (s .good .0)) in
+    (omega arith, rw (c .with .ensures, l .inv .1, default _ powerUp ds (l .i) h) (widths-more ds (l .i) h))
 
 returns : tie.Need-returns Inv-loop μ-loop
 returns c =
-    let a = c .before .before .before .args in
+    let s = c .before .before .before in
+    let a = s .args in
     let l = c .before .loop in
     let end : l .i ≡ a .n = omega arith in
-    rw (l .inv .1, end) (fit-all (take (a .n) (a .t1)) (all-bytes (a .t1) _ (c .before .before .before .good .0) (a .n)))
+    rw (l .inv .1, end) (fit-all (take (a .n) (a .t1 .devices)) (all-bytes (a .t1) _ (s .good .0) (a .n)))
 
 pub widths-spec : {M : Type 1} → statement M
 widths-spec =
@@ -61,7 +63,7 @@ widths-spec =
     new-requires
     loop-holds
     mul-passed
-    array-copy-out-passed
+    element-copy-out-passed
     with-requires
     add-i
     loop-less

@@ -125,7 +125,7 @@ fn carried(segments: u64, pins: PackedPins) -> u64
     low | high | point
 }
 
-// 1 in each byte that isn't 0.
+// 1 in each byte that isn't 0: its lower seven bits and 127, or it itself, reach the highest bit.
 fn nonzero_bytes(word: u64) -> u64
     ensures { λ r. ⌜ r ≡ nonzeroBytes word ⌝ }
 {

@@ -1,8 +1,11 @@
-# make run: the panel program on a sample script; make run SCRIPT=file on another: .hex is hex with comments, .txt the text form of
-# tools/script, anything else a script's own bytes.
-# make test: the gate. Everything is proved from nothing, every wrong version is tried, then our own tests run.
-# make bench: the speed of the exported calls and of the panel program, beside plain C, C tuned by hand and the second double.
-.PHONY: run test bench
+# make run      the panel program on a script, proved and built first where it must be. SCRIPT=FILE names another than the sample: .txt is
+#               text, .hex is hex with comments, anything else a script's own bytes
+# make test     the gate: everything is proved from nothing, every wrong version is tried, then our own tests run
+# make lib      the library for C, C++ and Rust, static and shared, with its header, in target/lib
+# make bench    the speed of the exported calls and of panel, beside plain C, C tuned by hand and the second double
+# make clean    removes target/, which has all that was built and proved
+# make help     says this
+.PHONY: run test lib bench clean help
 SCRIPT ?= samples/first.hex
 
 run:
@@ -17,7 +20,16 @@ run:
 	@target/bin/panel <target/script
 
 test:
-	@sh tests/gate
+	@tests/gate
+
+lib:
+	@tools/alone tools/library
 
 bench:
-	@sh bench/run
+	@bench/run
+
+clean:
+	@tools/alone rm -rf target
+
+help:
+	@sed -n 's/^# \{0,1\}//p' Makefile

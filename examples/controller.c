@@ -1,7 +1,7 @@
 /* A controller of two MAX6954, run against their bench double. It shows a count on driver 2, and reads its keys without taking an old word for
    a new one.
 
-     cc -std=c11 -Iinclude examples/controller.c target/staticlib/libchain.a -o target/controller && target/controller */
+     make lib && cc -std=c11 -Itarget/lib examples/controller.c target/lib/libratchetelm.a -o target/controller && target/controller */
 #include <stdio.h>
 #include <stdlib.h>
 #include <string.h>
@@ -33,6 +33,15 @@ static void expect(int yes, const char *what)
     }
 }
 
+/* What a call of the double must give. */
+static void served(const char *call, uint8_t number)
+{
+    if (number) {
+        fprintf(stderr, "controller: %s refused: %s\n", call, max6954_refusal_text(number));
+        exit(1);
+    }
+}
+
 /* One access: a word to the driver, no-ops to the others. Gives the word that comes out in the driver's place, which it held before. */
 static unsigned send(unsigned word)
 {
@@ -40,7 +49,7 @@ static unsigned send(unsigned word)
     uint8_t sent[2 * DRIVERS] = { 0 }, answer[2 * DRIVERS];
     sent[at] = (uint8_t)(word >> 8);
     sent[at + 1] = (uint8_t)word;
-    expect(max6954_access(panel, DRIVERS, 16 * DRIVERS, sent, sizeof sent, answer, sizeof answer) == 0, "an access that is served");
+    served("access", max6954_access(panel, DRIVERS, 16 * DRIVERS, sent, sizeof sent, answer, sizeof answer));
     return answer[at] * 256u + answer[at + 1];
 }
 
@@ -76,7 +85,7 @@ static void lit_segments(size_t digit, char *lit)
     static const char names[] = "a-bcd.efg";    /* - carries none */
     static const uint16_t font[128] = { 0 };
     const max6954_segment_answer shown = max6954_segments(panel, DRIVERS, DRIVER, digit, font, 128, font, 128);
-    expect(shown.number == 0, "segments that are served");
+    served("segments", shown.number);
     for (size_t pin = 0, k = 0; k < strlen(names); pin++) {
         if (pin / 2 == digit / 2)
             continue;
@@ -114,7 +123,7 @@ static void read_without_a_key(void)
 /* One scan with key 3 closed; gives the interrupt. */
 static unsigned scan_key_3(void)
 {
-    expect(max6954_scan(panel, DRIVERS, DRIVER, 1 << 3, 0, 0, 0) == 0, "a scan that is served");
+    served("scan", max6954_scan(panel, DRIVERS, DRIVER, 1 << 3, 0, 0, 0));
     return max6954_interrupt(panel, DRIVERS, DRIVER).raised;
 }
 
@@ -130,6 +139,7 @@ static void read_a_key(void)
 
 int main(void)
 {
+    expect(sizeof(max6954_device) == MAX6954_DEVICE_SIZE, "records laid out as the library has them");
     configure();
     show_count(42, "bcfg", "abdeg");
     read_without_a_key();

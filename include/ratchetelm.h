@@ -1,4 +1,4 @@
-/* The bench double of a chain of MAX6954, for C and C++. Link target/staticlib/libchain.a (rt staticlib chain).
+/* The bench double of a chain of MAX6954, for C and C++. make lib puts it into target/lib, beside the libratchetelm.a and libratchetelm.so to link.
 
    A chain is an array of 1 to 16 records, nearest the controller first, lent to each call as a pointer and a length. Drivers are counted from 1.
    No call allocates, keeps a pointer or writes where it was not lent. Any bytes are a record: one that isn't sound is refused, never undefined.
@@ -23,9 +23,45 @@
 #include <stddef.h>
 #include <stdint.h>
 
+/* 0.1.0: 10,000 for each of the first number, 100 of the second, 1 of the third. */
+#define RATCHETELM_VERSION 100
+
+/* The bytes of a record as the library has it. A program can test at its start that its compiler lays it out alike: sizeof(max6954_device) is this. */
+#define MAX6954_DEVICE_SIZE 80
+
 #ifdef __cplusplus
 extern "C" {
 #endif
+
+/* The words of a number: 1 to 7 are the calls', 8 and 9 the panel program's. */
+static inline const char *max6954_refusal_text(uint8_t number)
+{
+    switch (number) {
+    case 0:
+        return "served";
+    case 1:
+        return "the chain has 0 or more than 16 records";
+    case 2:
+        return "driver number not in 1..n";
+    case 3:
+        return "more than 4,096 clocks in one access";
+    case 4:
+        return "sent bytes fewer than the clocks need";
+    case 5:
+        return "room for answer bytes fewer than the clocks need";
+    case 6:
+        return "cathode above 7, pin levels above 31, a digit (alone or in a range) above 15, a range's last digit "
+               "below its first, a lent plane not 16 long, or a glyph table not 128 long";
+    case 7:
+        return "some record of the chain isn't sound";
+    case 8:
+        return "script: wrong mark, unknown kind, cut record, length not fitting its kind, or a chain record that isn't first";
+    case 9:
+        return "script longer than 65,536 bytes";
+    default:
+        return "not a number that is given";
+    }
+}
 
 /* The control registers as stored, each by its address. */
 typedef struct {

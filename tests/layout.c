@@ -244,6 +244,7 @@ static void answers(void)
 
 int main(void)
 {
+    holds("the size that the header names", "device", sizeof(max6954_device) == MAX6954_DEVICE_SIZE);
     holds("each byte is of one field", "device", covered());
     holds("power-up", "device", powered_up());
     for (size_t i = 0; i < sizeof fields / sizeof fields[0]; i++) {

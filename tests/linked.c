@@ -115,6 +115,29 @@ static void refusals(void)
     holds("a refused answer holds 0 and drives no pin", zero && max6954_interrupt(chain, 3, 1).raised == 0 && undriven(max6954_segments(chain, 3, 1, 0, font, 128, font, 128)));
 }
 
+/* Document 01's table of numbers. */
+static void words(void)
+{
+    static const char *const table[] = {
+        "served",
+        "the chain has 0 or more than 16 records",
+        "driver number not in 1..n",
+        "more than 4,096 clocks in one access",
+        "sent bytes fewer than the clocks need",
+        "room for answer bytes fewer than the clocks need",
+        ("cathode above 7, pin levels above 31, a digit (alone or in a range) above 15, a range's last digit below its first, "
+         "a lent plane not 16 long, or a glyph table not 128 long"),
+        "some record of the chain isn't sound",
+        "script: wrong mark, unknown kind, cut record, length not fitting its kind, or a chain record that isn't first",
+        "script longer than 65,536 bytes",
+    };
+    int alike = 1;
+    for (int i = 0; i < 10; i++)
+        alike = alike && strcmp(max6954_refusal_text((uint8_t)i), table[i]) == 0;
+    holds("each number has its words", alike);
+    holds("a number that isn't given has words too", strcmp(max6954_refusal_text(10), max6954_refusal_text(255)) == 0 && strlen(max6954_refusal_text(10)) > 0);
+}
+
 static const uint8_t p0[16] = { 0, 1, 2, 3 }, p1[16] = { 9, 8, 7, 6 };
 
 /* Whether a driver's part has this number and is of this plane, by each call that says so. */
@@ -165,6 +188,7 @@ int main(void)
 {
     examples();
     refusals();
+    words();
     questions();
     printf("%d passed, %d failed\n", passed, failed);
     return failed != 0;

@@ -3,6 +3,7 @@ use ratchetelm::{
     access, add_clocks, brightness, interrupt, plane, scan, segments, set_pins, shown, Config,
     Controls, Device, Group, Pin, Plane, Refusal,
 };
+use std::mem::size_of;
 
 const FONT: [u16; 128] = [0; 128];
 
@@ -239,11 +240,27 @@ fn each_call_is_refused_by_its_number() {
     assert_eq!(access(&mut chain[..1], 0, &[], &mut []), Ok(()));
 }
 
+const HEADER: &str = include_str!("../../include/ratchetelm.h");
+
+/// A number that the header defines.
+fn defined(name: &str) -> Option<usize> {
+    let line = HEADER
+        .lines()
+        .find_map(|line| line.strip_prefix(&format!("#define {name} ")));
+    line.and_then(|number| number.parse().ok())
+}
+
+#[test]
+fn the_header_has_this_version_and_this_size() {
+    let version = env!("CARGO_PKG_VERSION").split('.');
+    let version = version.fold(0, |sum, part| 100 * sum + part.parse::<usize>().unwrap());
+    assert_eq!(defined("RATCHETELM_VERSION"), Some(version));
+    assert_eq!(defined("MAX6954_DEVICE_SIZE"), Some(size_of::<Device>()));
+}
+
 #[test]
 fn refusals_have_the_numbers_and_words_of_the_header() {
-    let header: Vec<&str> = include_str!("../../include/ratchetelm.h")
-        .split_whitespace()
-        .collect();
+    let header: Vec<&str> = HEADER.split_whitespace().collect();
     let header = header.join(" ");
     let refusals = [
         Refusal::ChainLength,
@@ -254,9 +271,13 @@ fn refusals_have_the_numbers_and_words_of_the_header() {
         Refusal::OutOfRange,
         Refusal::Unsound,
     ];
+    // Two strings side by side are one.
+    let given = header.replace("\" \"", "");
     for (k, refusal) in refusals.into_iter().enumerate() {
         assert_eq!(usize::from(refusal.number()), k + 1);
         let words = format!(" {} {refusal}", k + 1);
         assert!(header.contains(&words), "{words}");
+        let words = format!(" case {}: return \"{refusal}\";", k + 1);
+        assert!(given.contains(&words), "{words}");
     }
 }

@@ -1,5 +1,5 @@
 # make run      the panel program on a script, proved and built first where it must be. SCRIPT=FILE names another than the sample: .txt is
-#               text, .hex is hex with comments, anything else a script's own bytes
+#               text, .hex is hex with comments, .bin is bytes. OPTIONS="--show --strict" are those of tools/run, whose --help has them
 # make test     the gate: everything is proved from nothing, every wrong version is tried, then our own tests run
 # make lib      the library for C, C++ and Rust, static and shared, with its header, in target/lib
 # make bench    the speed of the exported calls and of panel, beside plain C, C tuned by hand and the second double
@@ -7,17 +7,10 @@
 # make help     says this
 .PHONY: run test lib bench clean help
 SCRIPT ?= samples/first.hex
+OPTIONS =
 
 run:
-	@mkdir -p target
-	@[ -x target/bin/panel ] || echo "proving and building panel: about three minutes, once" >&2
-	@rt check panel >target/run.log 2>&1 || { cat target/run.log; exit 1; }
-	@case "$(SCRIPT)" in \
-	*.hex) tools/script hex "$(SCRIPT)" ;; \
-	*.txt) tools/script pack "$(SCRIPT)" ;; \
-	*) cat "$(SCRIPT)" ;; \
-	esac >target/script
-	@target/bin/panel <target/script
+	@tools/run $(OPTIONS) -- "$(SCRIPT)"
 
 test:
 	@tests/gate

@@ -1,1 +1,2 @@
+pub mod Half
 pub mod Part

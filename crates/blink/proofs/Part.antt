@@ -1,13 +1,18 @@
--- What a plane call that is not refused was given.
+-- What a plane call that is not refused was given, and the digits that it gives back.
 -- Assumes nothing.
-use Prim.Native.Nat.{ℕ, _<_, _≤_}
+use Prim.Native.Nat.{ℕ, _+_, _-_, _<_, _≤_}
+use native.Mathlib.Omega.{arith}
 use mathlib.Core.List.{List}
 use mathlib.Core.Path.{_≡_}
 use lib.Dec.{eqb, leb, ltb}
-use lib.ListN.{length}
+use lib.ListN.{length, getD, length-take, length-drop}
+use lib.Seq.{getD-drop, getD-take}
 use borrow.Author.Tests.{eqb-true, leb-true, ltb-true}
 use Rattle.words.proofs.Truth.{passed}
-use Rattle.blink.specs.Part.{planeNumber}
+use Rattle.words.specs.declared.Plane.{Plane}
+use Rattle.words.specs.declared.Plane.the-variants.{P0, P1}
+use Rattle.blink.specs.Part.{planeNumber, lentPlane, planePart}
+use Rattle.blink.specs.PartDigits.{PartDigits}
 
 pub record Served (p0 p1 : List ℕ) (first last : ℕ) : Type 0 where
   pub length0 : length p0 ≡ 16
@@ -27,3 +32,23 @@ served p0 p1 first last e =
       digits = ltb-true _ _ (c .0);
       range = leb-true _ _ (d .0);
     }
+
+lent-long : (shown : Plane) (p0 p1 : List ℕ) (first last : ℕ) → Served p0 p1 first last → length (lentPlane shown p0 p1) ≡ 16
+lent-long P0 p0 p1 first last s = s .length0
+lent-long P1 p0 p1 first last s = s .length1
+
+part-size : (shown : Plane) (p0 p1 : List ℕ) (first last : ℕ) → planeNumber p0 p1 first last ≡ 0
+    → first + length (planePart shown p0 p1 first last) ≡ last + 1
+part-size shown p0 p1 first last e =
+    let s = served p0 p1 first last e in
+    let long = lent-long shown p0 p1 first last s in
+    rw e (simp (length-take, length-drop) (omega arith))
+
+part-digit : (shown : Plane) (p0 p1 : List ℕ) (first k last : ℕ) → planeNumber p0 p1 first last ≡ 0 → first + k ≤ last
+    → getD (planePart shown p0 p1 first last) k 0 ≡ getD (lentPlane shown p0 p1) (first + k) 0
+part-digit shown p0 p1 first k last e h =
+    let l : k < last + 1 - first = omega arith in
+    rw (e, getD-take, getD-drop)
+
+pub part-digits : PartDigits
+part-digits = record { size = part-size; digit = part-digit }

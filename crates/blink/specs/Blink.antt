@@ -11,6 +11,10 @@ use Rattle.words.specs.declared.Plane.the-variants.{P0, P1}
 abbrev pub advanced : ℕ → ℕ → ℕ
 advanced count clocks = (count + clocks) % 4000000
 
+-- T=1 sets the blink count to 0
+abbrev pub restarted : ℕ → Bool → ℕ
+restarted count t = if t 0 count
+
 -- slow: the P0 phase is a count below 2,000,000; fast: the count modulo 2,000,000 is below 1,000,000
 abbrev pub phaseAt : ℕ → Bool → Plane
 phaseAt count fast =

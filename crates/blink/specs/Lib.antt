@@ -1,2 +1,4 @@
 pub mod Blink
 pub mod Part
+pub mod Phases
+pub mod PartDigits

@@ -1,8 +1,9 @@
 // The blink count of a MAX6954: master clocks, the phase, the plane shown, and a part of it from two lent planes.
 ghost use mathlib.Core.Path.{_≡_};
-ghost use Rattle.words.specs.Choice.{if};
-ghost use Rattle.blink.specs.Blink.{advanced, phaseAt, shownAt};
+ghost use Rattle.blink.specs.Blink.{advanced, restarted, phaseAt, shownAt};
 ghost use Rattle.blink.specs.Part.{planeNumber, planePart};
+ghost use Rattle.blink.specs.Phases.{Phases};
+ghost use Rattle.blink.specs.PartDigits.{PartDigits};
 use words::Plane;
 
 // Master clocks added to a count.
@@ -15,7 +16,7 @@ pub fn advanced(count: u32, clocks: u32) -> u32
 
 // A count, or 0 where it is restarted.
 pub fn restarted(count: u32, restart: bool) -> u32
-    ensures { λ r. ⌜ r ≡ if restart 0 count ⌝ }
+    ensures { λ r. ⌜ r ≡ restarted count restart ⌝ }
 {
     if restart { 0 } else { count }
 }
@@ -88,3 +89,13 @@ pub fn plane_part<'a>(
         Plane::P1 => &p1[first..end],
     }
 }
+
+// A theorem: the phases, half a period each.
+pub fn phases()
+    ensures { λ _. ⌜ Phases ⌝ }
+{}
+
+// A theorem: a part that is returned, digit by digit.
+pub fn part_digits()
+    ensures { λ _. ⌜ PartDigits ⌝ }
+{}

@@ -3,6 +3,7 @@ ghost use mathlib.Core.Path.{_≡_};
 ghost use Prim.Native.Nat.{_≤_};
 ghost use Rattle.controls.specs.Controls.{controlWritten, controlData};
 ghost use Rattle.controls.specs.Config.{configOf, phaseBit, configData};
+ghost use Rattle.controls.specs.Widths.{Widths};
 use words::ControlRegister;
 use words::Plane;
 
@@ -119,3 +120,8 @@ fn phase_bit(phase: Plane) -> u8
         Plane::P1 => 0,
     }
 }
+
+// A theorem: the width of each control register, and the bits of the configuration register.
+pub fn widths()
+    ensures { λ _. ⌜ Widths ⌝ }
+{}

@@ -3,6 +3,7 @@ ghost use mathlib.Core.Path.{_≡_};
 ghost use lib.ListN.{getD, set};
 ghost use Rattle.words.specs.Choice.{if};
 ghost use Rattle.digits.specs.Digits.{planeOf, digitWritten, bothWritten, cleared};
+ghost use Rattle.digits.specs.DigitByDigit.{DigitByDigit};
 use words::Plane;
 
 // Digits 0 to 7, then 0a to 7a, in both planes.
@@ -103,3 +104,8 @@ fn put16(mut a: [u8; 16], i: u8, v: u8) -> [u8; 16]
     }
     a
 }
+
+// A theorem: what writes and R leave in both planes, digit by digit.
+pub fn digit_by_digit()
+    ensures { λ _. ⌜ DigitByDigit ⌝ }
+{}

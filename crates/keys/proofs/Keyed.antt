@@ -1,17 +1,23 @@
--- What a scan does, key by key.
+-- What a scan does, key by key and group by group.
 -- Assumes nothing.
-use Prim.Native.Nat.{ℕ, _-_, _<_}
+use Prim.Native.Nat.{ℕ, _-_, _/_, _<_}
 use native.Mathlib.Nat.{zero-div}
 use native.Mathlib.Omega.{arith}
-use mathlib.Core.Bool.{Bool, true, false, _&&_}
+use mathlib.Core.Bool.{Bool, true, false, _&&_, or-true, true≢false}
 use mathlib.Core.Path.{_≡_, refl, _∙_}
-use lib.Dec.{ltb}
+use lib.Dec.{eqb, ltb}
+use lib.ListN.{getD}
 use lib.Bits.{bitAnd, and-le-l}
+use borrow.Author.Tests.{eqb-true}
 use Rattle.words.specs.Choice.{if, bit, some}
+use Rattle.words.specs.declared.KeyGroup.{KeyGroup}
+use Rattle.words.specs.declared.KeyGroup.the-variants.{A, B, C, D}
+use Rattle.words.proofs.Below.{all, all-at}
 use Rattle.words.proofs.Bits.{and-bit, or-bit, not-bit, some-bit}
-use Rattle.keys.specs.Keys.{groupsOf, closedOf, newly, raises}
-use Rattle.keys.specs.KeyByKey.{KeyScanned, KeyByKey}
+use Rattle.keys.specs.Keys.{groupOf, withGroup, withInterrupt, debouncedRead, groupsOf, closedOf, newly, scannedGroup, raises, scannedKeys}
+use Rattle.keys.specs.KeyByKey.{table32, placeOf, keysOf, KeyScanned, KeyByKey}
 use Rattle.keys.specs.declared.Group.{Group}
+use Rattle.keys.specs.declared.Keys.{Keys}
 
 key-scanned : (g : Group) (closed k : ℕ) → k < 8 → g .held < 256 → KeyScanned g closed k
 key-scanned g closed k hk hh =
@@ -34,5 +40,77 @@ raised-key g closed h =
     (omega (arith, and-le-l (newly g closed) (g .mask), and-le-l (bitAnd closed (g .pressed)) (255 - g .held), and-le-l closed (g .pressed)))
     ∙ simp and-bit
 
+grouped : (ports : ℕ) → ports < 256 → groupsOf ports ≡ getD table32 (ports / 32) 0
+grouped ports h = eqb-true _ _ (all-at (λ p. eqb (groupsOf p) (getD table32 (p / 32) 0)) 256 refl ports h)
+
+each-group : (k : Keys) (ports a b c d : ℕ) (g : KeyGroup)
+    → groupOf (scannedKeys k ports a b c d) g ≡ scannedGroup (groupOf k g) (closedOf ports (placeOf g) (keysOf a b c d g))
+each-group k ports a b c d A = refl
+each-group k ports a b c d B = refl
+each-group k ports a b c d C = refl
+each-group k ports a b c d D = refl
+
+raised-by : (k : Keys) (ports a b c d : ℕ) (g : KeyGroup)
+    → raises (groupOf k g) (closedOf ports (placeOf g) (keysOf a b c d g)) ≡ true → scannedKeys k ports a b c d .interrupt ≡ 1
+raised-by k ports a b c d A e = simp e
+raised-by k ports a b c d B e = simp (e, or-true)
+raised-by k ports a b c d C e = simp (e, or-true)
+raised-by k ports a b c d D e = simp (e, or-true)
+
+not-raised : (k : Keys) (ports a b c d : ℕ)
+    → ((g : KeyGroup) → raises (groupOf k g) (closedOf ports (placeOf g) (keysOf a b c d g)) ≡ false)
+    → scannedKeys k ports a b c d .interrupt ≡ k .interrupt
+not-raised k ports a b c d e = rw (e A, e B, e C, e D)
+
+own-group : (k : Keys) (g : KeyGroup) (x : Group) → groupOf (withGroup k g x) g ≡ x
+own-group k A x = refl
+own-group k B x = refl
+own-group k C x = refl
+own-group k D x = refl
+
+other-group : (k : Keys) (g h : KeyGroup) (x : Group) → eqb (placeOf g) (placeOf h) ≡ false → groupOf (withGroup k g x) h ≡ groupOf k h
+other-group k A A x e = absurd (true≢false e)
+other-group k A B x e = refl
+other-group k A C x e = refl
+other-group k A D x e = refl
+other-group k B A x e = refl
+other-group k B B x e = absurd (true≢false e)
+other-group k B C x e = refl
+other-group k B D x e = refl
+other-group k C A x e = refl
+other-group k C B x e = refl
+other-group k C C x e = absurd (true≢false e)
+other-group k C D x e = refl
+other-group k D A x e = refl
+other-group k D B x e = refl
+other-group k D C x e = refl
+other-group k D D x e = absurd (true≢false e)
+
+read-interrupt : (k : Keys) (g : KeyGroup) → debouncedRead k g .interrupt ≡ 0
+read-interrupt k A = refl
+read-interrupt k B = refl
+read-interrupt k C = refl
+read-interrupt k D = refl
+
+read-others : (k : Keys) (g h : KeyGroup) → eqb (placeOf g) (placeOf h) ≡ false → groupOf (debouncedRead k g) h ≡ groupOf k h
+read-others k g A e = other-group (withInterrupt k 0) g A _ e
+read-others k g B e = other-group (withInterrupt k 0) g B _ e
+read-others k g C e = other-group (withInterrupt k 0) g C _ e
+read-others k g D e = other-group (withInterrupt k 0) g D _ e
+
 pub key-by-key : KeyByKey
-key-by-key = record { closed = closed-key; scanned = key-scanned; raised = raised-key }
+key-by-key =
+    record {
+      groups = grouped;
+      closed = closed-key;
+      scanned = key-scanned;
+      raised = raised-key;
+      each-group = each-group;
+      raised-by = raised-by;
+      not-raised = not-raised;
+      masked = λ k g v. rw own-group;
+      read-cleared = λ k g. rw own-group;
+      read-interrupt = read-interrupt;
+      others-masked = λ k g h v e. other-group k g h _ e;
+      others-read = read-others;
+    }

@@ -7,7 +7,7 @@ use Rattle.words.specs.declared.Plane.{Plane}
 use Rattle.words.specs.declared.Register.{Register}
 use Rattle.words.specs.declared.Register.the-variants.{NoOp, Control, Configuration, KeyMask, KeyDebounced, KeyPressed, Intensity, Digit, BothPlanes, Unlisted}
 use Rattle.keys.specs.Keys.{maskWritten, debouncedRead, groupOf}
-use Rattle.blink.specs.Blink.{phaseAt}
+use Rattle.blink.specs.Blink.{restarted, phaseAt}
 use Rattle.ports.specs.Ports.{portData}
 use Rattle.digits.specs.Digits.{planeOf, digitWritten, bothWritten, cleared}
 use Rattle.controls.specs.Controls.{controlWritten, controlData}
@@ -25,7 +25,7 @@ configured x v =
       keys = x .keys;
       planes = if (bit 5 v) cleared (x .planes);
       pins = x .pins;
-      blink = if (bit 4 v) 0 (x .blink);
+      blink = restarted (x .blink) (bit 4 v);
     }
 
 -- a register written; the no-op, key reports and unlisted addresses take nothing

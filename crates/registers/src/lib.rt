@@ -2,6 +2,7 @@
 ghost use mathlib.Core.Path.{_≡_};
 ghost use Rattle.registers.specs.Record.{withControls, withIntensities, withKeys, withPlanes};
 ghost use Rattle.registers.specs.Registers.{configured, written, phaseOf, levelsOf, dataOf, afterRead};
+ghost use Rattle.registers.specs.WrittenAndRead.{WrittenAndRead};
 use controls::Config;
 use controls::Controls;
 use digits::Planes;
@@ -158,3 +159,8 @@ impl Registers {
         }
     }
 }
+
+// A theorem: what R and T do, and the registers that take nothing, or read 0.
+pub fn written_and_read()
+    ensures { λ _. ⌜ WrittenAndRead ⌝ }
+{}

@@ -1,9 +1,14 @@
--- A list by its elements.
+-- A list by its elements, and tables of examples.
 -- Assumes nothing.
 use Prim.Native.Nat.{ℕ, zero, suc}
-use mathlib.Core.List.{List, [], _∷_, _++_}
+use mathlib.Core.List.{List, [], _∷_, _++_, map}
+use mathlib.Core.Path.{_≡_}
 
 -- the values of f at 0 up to, not including, n
 unfoldable pub tabulate : {A : Type 0} → ℕ → (ℕ → A) → List A
 tabulate zero f = []
 tabulate (suc n) f = tabulate n f ++ f n ∷ []
+
+-- a table of examples, in each row what is evaluated and what the document says: the two agree in every row
+abbrev pub Agree : List (List ℕ × List ℕ) → Type 0
+Agree rows = map (λ (row : List ℕ × List ℕ). row .0) rows ≡ map (λ (row : List ℕ × List ℕ). row .1) rows

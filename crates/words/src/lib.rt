@@ -1,6 +1,7 @@
 // The registers of a MAX6954, and the 16-bit words that write and read them (Table 6).
 ghost use mathlib.Core.Path.{_≡_};
 ghost use Rattle.words.specs.Words.{highRegister, alikeAt, writtenAt, readAt, wordOf};
+ghost use Rattle.words.specs.Table6.{Table6};
 
 pub enum Plane {
     P0,
@@ -128,3 +129,8 @@ pub fn decode(word: u16) -> Word
         Word::Write(written_at(address), (word % 256) as u8)
     }
 }
+
+// A theorem: every address names what Table 6 says.
+pub fn table_6()
+    ensures { λ _. ⌜ Table6 ⌝ }
+{}

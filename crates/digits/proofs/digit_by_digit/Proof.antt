@@ -1,0 +1,10 @@
+-- `digits::digit_by_digit` meets its contract. Assumes nothing.
+use Rattle.digits.proofs.Each.{digit-by-digit}
+use Rattle.digits.proofs.digit_by_digit.Statement.{statement}
+use Rattle.digits.proofs.digit_by_digit.Tie as tie
+
+returns : tie.Need-returns
+returns c = digit-by-digit
+
+pub digit-by-digit-spec : {M : Type 1} → statement M
+digit-by-digit-spec = tie.close (tie.spec returns)

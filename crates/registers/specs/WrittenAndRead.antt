@@ -1,0 +1,29 @@
+-- Document 01, "Registers": what R and T do, and the registers that take nothing, or read 0.
+-- Assumes nothing.
+use Prim.Native.Nat.{ℕ}
+use mathlib.Core.Path.{_≡_}
+use Rattle.words.specs.declared.KeyGroup.{KeyGroup}
+use Rattle.words.specs.declared.Register.the-variants.{NoOp, Configuration, KeyMask, KeyDebounced, KeyPressed, BothPlanes, Unlisted}
+use Rattle.digits.specs.Digits.{cleared}
+use Rattle.registers.specs.Registers.{written, dataOf, afterRead}
+use Rattle.registers.specs.declared.Registers.{Registers}
+
+-- whatever the registers hold
+pub record WrittenAndRead : Type 0 where
+  -- 0x00 no-op: writes do nothing, it reads 0
+  pub no-op-written : (x : Registers) (v : ℕ) → written x NoOp v ≡ x
+  pub no-op-read : (x : Registers) → dataOf x NoOp ≡ 0
+  -- bits P I R T E B X S: R=1 alone clears the planes and leaves the count, T=1 alone sets the count to 0 and leaves the planes
+  pub r-alone : (x : Registers) → (written x Configuration 0x20 .planes ≡ cleared) × (written x Configuration 0x20 .blink ≡ x .blink)
+  pub t-alone : (x : Registers) → (written x Configuration 0x10 .planes ≡ x .planes) × (written x Configuration 0x10 .blink ≡ 0)
+  -- the other six leave both
+  pub neither : (x : Registers) → (written x Configuration 0xCF .planes ≡ x .planes) × (written x Configuration 0xCF .blink ≡ x .blink)
+  -- masks can't be read; a report of keys can't be written, and pressed keys stay when they are read
+  pub mask-read : (x : Registers) (g : KeyGroup) → dataOf x (KeyMask g) ≡ 0
+  pub report-written : (x : Registers) (g : KeyGroup) (v : ℕ) → (written x (KeyDebounced g) v ≡ x) × (written x (KeyPressed g) v ≡ x)
+  pub pressed-read : (x : Registers) (g : KeyGroup) → afterRead x (KeyPressed g) ≡ x
+  -- 0x60+d "reads as 0x00" (Table 6)
+  pub both-read : (x : Registers) (i : ℕ) → dataOf x (BothPlanes i) ≡ 0
+  -- unlisted addresses read 0; writes to them do nothing
+  pub unlisted-written : (x : Registers) (v : ℕ) → written x Unlisted v ≡ x
+  pub unlisted-read : (x : Registers) → dataOf x Unlisted ≡ 0

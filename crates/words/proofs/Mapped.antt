@@ -1,0 +1,27 @@
+-- Table 6, by computation.
+-- Assumes nothing.
+use mathlib.Core.List.{map}
+use mathlib.Core.Path.{_≡_, refl}
+use Prim.Native.Nat.{ℕ}
+use Rattle.words.specs.Lists.{tabulate}
+use Rattle.words.specs.Words.{writtenAt, readAt}
+use Rattle.words.specs.Table6.{table6, unlisted, Table6}
+use Rattle.words.specs.declared.Register.{Register}
+use Rattle.words.specs.declared.Register.the-variants.{Unlisted}
+
+written-rows : map (λ (row : ℕ × Register × Register). writtenAt (row .0)) table6 ≡ map (λ (row : ℕ × Register × Register). row .1) table6
+written-rows = refl
+
+read-rows : map (λ (row : ℕ × Register × Register). readAt (row .0)) table6 ≡ map (λ (row : ℕ × Register × Register). row .2) table6
+read-rows = refl
+
+no-row-written : map writtenAt unlisted ≡ map (λ a. Unlisted) unlisted
+unfolding tabulate
+no-row-written = refl
+
+no-row-read : map readAt unlisted ≡ map (λ a. Unlisted) unlisted
+unfolding tabulate
+no-row-read = refl
+
+pub mapped : Table6
+mapped = record { as-written = written-rows; as-read = read-rows; others-written = no-row-written; others-read = no-row-read }

@@ -1,2 +1,3 @@
 pub mod Dark
 pub mod Brightness
+pub mod Tables

@@ -2,6 +2,7 @@
 ghost use mathlib.Core.Path.{_≡_};
 ghost use Rattle.brightness.specs.Dark.{dark};
 ghost use Rattle.brightness.specs.Brightness.{ownNibble, nibbleOf, sixteenths, brightnessOf, brightnessAnswer};
+ghost use Rattle.brightness.specs.Tables.{BrightnessTables};
 use device::Device;
 
 // An answer: its number, and the brightness in sixteenths.
@@ -78,3 +79,8 @@ pub fn brightness(device: Device, digit: usize) -> BrightnessAnswer
         }
     }
 }
+
+// A theorem: dark cathodes and brightness beside the data sheet's tables.
+pub fn brightness_tables()
+    ensures { λ _. ⌜ BrightnessTables ⌝ }
+{}

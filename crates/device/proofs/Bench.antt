@@ -1,9 +1,21 @@
--- The bench examples of one driver, by computation.
+-- The examples of one driver, by computation.
 -- Assumes nothing.
 use mathlib.Core.Path.{refl}
+use Rattle.words.specs.Lists.{Agree}
 use Rattle.device.specs.Words.{taken}
-use Rattle.device.specs.Examples.{Examples}
+use Rattle.device.specs.Examples.{rows, registerRows, keyRows, Examples}
 
-pub bench : Examples
+bench : Agree rows
 unfolding taken
 bench = refl
+
+bench-registers : Agree registerRows
+unfolding taken
+bench-registers = refl
+
+bench-keys : Agree keyRows
+unfolding taken
+bench-keys = refl
+
+pub examples : Examples
+examples = record { bench = bench; registers = bench-registers; keys = bench-keys }

@@ -1,3 +1,4 @@
 pub mod Bench
+pub mod PoweredUp
 pub mod Shift
 pub mod Sound

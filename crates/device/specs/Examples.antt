@@ -1,11 +1,12 @@
--- Document 01, "Bench examples", those of one driver: what the definitions give beside what the document says.
+-- Document 01, "Bench examples", those of one driver, and more by its headings: what the definitions give beside what the document says.
 -- Assumes nothing.
 use Prim.Native.Nat.{ℕ, _/_, _%_}
 use mathlib.Core.List.{List, [], _∷_, map}
-use mathlib.Core.Path.{_≡_}
+use Rattle.words.specs.Lists.{Agree}
 use Rattle.device.specs.PowerUp.{powerUp}
 use Rattle.device.specs.Words.{taken}
 use Rattle.device.specs.Steps.{scanned, clocked}
+use Rattle.device.specs.Table15.{after, full}
 use Rattle.device.specs.declared.Device.{Device}
 
 -- what a driver alone on the wire answers to words: the shift word that each finds
@@ -23,7 +24,15 @@ reports d (keys ∷ scans) =
 abbrev pub phaseRead : Device → ℕ → ℕ
 phaseRead d clocks = taken (clocked d clocks) 0x8400 .shift / 128 % 2
 
--- each example as what is evaluated and what the document says
+-- the data that each read word finds, each on the same driver
+abbrev pub found : Device → List ℕ → List ℕ
+found d ws = map (λ w. taken d w .shift % 256) ws
+
+-- the same keys closed in two scans: one of group A, the second of B, the third of C, the fourth of D
+abbrev pub twice : Device → Device
+twice d = scanned (scanned d 1 2 4 8) 1 2 4 8
+
+-- "Bench examples"
 abbrev pub rows : List (List ℕ × List ℕ)
 rows =
     -- 1: answers 0000, 0401, 8481
@@ -37,6 +46,47 @@ rows =
     )
     ∷ []
 
--- the two agree in every row
-abbrev pub Examples : Type 0
-Examples = map (λ (row : List ℕ × List ℕ). row .0) rows ≡ map (λ (row : List ℕ × List ℕ). row .1) rows
+-- "Registers", written and then read
+abbrev pub registerRows : List (List ℕ × List ℕ)
+registerRows =
+    -- 0x00 no-op, reads 0; 0x18, 0x30, 0x50 and 0x70 are unlisted; masks and digit type can't be read, 0x60+d reads 0 (Table 6)
+    (
+      found full (0x8000 ∷ 0x8800 ∷ 0x8B00 ∷ 0x8C00 ∷ 0x9800 ∷ 0xB000 ∷ 0xD000 ∷ 0xE000 ∷ 0xEF00 ∷ 0xF000 ∷ []),
+      0 ∷ 0 ∷ 0 ∷ 0 ∷ 0 ∷ 0 ∷ 0 ∷ 0 ∷ 0 ∷ 0 ∷ [],
+    )
+    -- unused bits read 0: 0x01 to 0x07 and 0x10 written with FF, of 0x05 as outputs; P I 0 0 E B 0 S
+    ∷ (
+      found (taken full 0x0600) (0x8100 ∷ 0x8200 ∷ 0x8300 ∷ 0x8400 ∷ 0x8500 ∷ 0x8700 ∷ 0x9000 ∷ []),
+      0xFF ∷ 0x0F ∷ 0x07 ∷ 0xCD ∷ 0x1F ∷ 0x01 ∷ 0xFF ∷ [],
+    )
+    -- 0x60+d writes both planes; R sets their bytes to 0, the intensities stay
+    ∷ (found (after powerUp (0x6055 ∷ 0x1077 ∷ [])) (0xA000 ∷ 0xC000 ∷ 0x9000 ∷ []), 0x55 ∷ 0x55 ∷ 0x77 ∷ [])
+    ∷ (found (after powerUp (0x6055 ∷ 0x1077 ∷ 0x0420 ∷ [])) (0xA000 ∷ 0xC000 ∷ 0x9000 ∷ []), 0 ∷ 0 ∷ 0x77 ∷ [])
+    -- T sets the blink count to 0
+    ∷ (map (λ n. phaseRead (taken (clocked powerUp 5) 0x0410) n) (1999999 ∷ 2000000 ∷ []), 1 ∷ 0 ∷ [])
+    ∷ []
+
+-- "Keys", by what is read
+abbrev pub keyRows : List (List ℕ × List ℕ)
+keyRows =
+    -- 0x08..0x0B debounced keys, 0x0C..0x0F pressed keys A to D: of four groups, of three, and with D7 to D5 of 7
+    (
+      found (twice (taken powerUp 0x0680)) (0x8800 ∷ 0x8900 ∷ 0x8A00 ∷ 0x8B00 ∷ 0x8C00 ∷ 0x8D00 ∷ 0x8E00 ∷ 0x8F00 ∷ []),
+      1 ∷ 2 ∷ 4 ∷ 8 ∷ 1 ∷ 2 ∷ 4 ∷ 8 ∷ [],
+    )
+    ∷ (found (twice (taken powerUp 0x0660)) (0x8A00 ∷ 0x8B00 ∷ 0x8F00 ∷ []), 4 ∷ 0 ∷ 0 ∷ [])
+    ∷ (found (twice (taken powerUp 0x06E0)) (0x8B00 ∷ 0x8F00 ∷ []), 8 ∷ 8 ∷ [])
+    -- each mask raises the interrupt, P4, for the keys of its own group; writes to 0x0D..0x0F do nothing
+    ∷ (
+      map (λ w. taken (twice (after powerUp (0x0680 ∷ w ∷ []))) 0x8500 .shift % 256) (0x0801 ∷ 0x0902 ∷ 0x0A04 ∷ 0x0B08 ∷ 0x0802 ∷ 0x0B04 ∷ 0x0D08 ∷ []),
+      16 ∷ 16 ∷ 16 ∷ 16 ∷ 0 ∷ 0 ∷ 0 ∷ [],
+    )
+    -- reading any debounced register clears it and the interrupt, and leaves the others
+    ∷ (found (taken (twice (after powerUp (0x0680 ∷ 0x0801 ∷ []))) 0x8900) (0x8500 ∷ 0x8800 ∷ 0x8900 ∷ []), 0 ∷ 1 ∷ 0 ∷ [])
+    ∷ []
+
+-- what the definitions give is what the document says
+pub record Examples : Type 0 where
+  pub bench : Agree rows
+  pub registers : Agree registerRows
+  pub keys : Agree keyRows

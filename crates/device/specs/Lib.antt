@@ -5,4 +5,5 @@ pub mod Words
 pub mod Steps
 pub mod Soundness
 pub mod ShiftWord
+pub mod Table15
 pub mod Examples

@@ -7,6 +7,7 @@ ghost use Rattle.device.specs.Words.{answerWord, answered, taken};
 ghost use Rattle.device.specs.Steps.{scanned, clocked, shownPlane};
 ghost use Rattle.device.specs.Soundness.{Soundness};
 ghost use Rattle.device.specs.ShiftWord.{ShiftWord};
+ghost use Rattle.device.specs.Table15.{Table15};
 ghost use Rattle.device.specs.Examples.{Examples};
 use controls::Config;
 use controls::Controls;
@@ -181,6 +182,11 @@ pub fn soundness()
 // A theorem: the shift word after a word is taken.
 pub fn shift_word()
     ensures { λ _. ⌜ ShiftWord ⌝ }
+{}
+
+// A theorem: the power-up record is what Table 15 says.
+pub fn table_15()
+    ensures { λ _. ⌜ Table15 ⌝ }
 {}
 
 // A theorem: the bench examples of one driver.

@@ -1,10 +1,10 @@
 -- `device::examples` meets its contract. Assumes nothing.
-use Rattle.device.proofs.Bench.{bench}
+use Rattle.device.proofs.Bench.{examples}
 use Rattle.device.proofs.examples.Statement.{statement}
 use Rattle.device.proofs.examples.Tie as tie
 
 returns : tie.Need-returns
-returns c = bench
+returns c = examples
 
 pub examples-spec : {M : Type 1} → statement M
 examples-spec = tie.close (tie.spec returns)

@@ -1,0 +1,63 @@
+-- Dark cathodes and brightness beside the tables of 000.
+-- Assumes nothing.
+use Prim.Native.Nat.{ℕ, _<_, _≤_}
+use native.Mathlib.Omega.{arith}
+use mathlib.Core.Bool.{true, false, or-true}
+use mathlib.Core.List.{map}
+use mathlib.Core.Path.{_≡_, refl}
+use borrow.Author.Tests.{lt-ltb, le-ltb}
+use Rattle.words.specs.Choice.{odd}
+use Rattle.device.specs.declared.Device.{Device}
+use Rattle.brightness.specs.Dark.{testOn, dark}
+use Rattle.brightness.specs.Brightness.{ownNibble, sixteenths, brightnessOf, brightnessAnswer}
+use Rattle.brightness.specs.Tables.{sixteenNumbers, table26, table27, BrightnessTables}
+
+to-the-limit : (x : Device) (d : ℕ) → testOn x ≡ false → odd (x .registers .config .s) ≡ true → d ≤ x .registers .controls .limit → dark x d ≡ false
+to-the-limit x d t s h = rw (t, s) (le-ltb (x .registers .controls .limit) d h)
+
+above-the-limit : (x : Device) (d : ℕ) → testOn x ≡ false → x .registers .controls .limit < d → dark x d ≡ true
+above-the-limit x d t h = rw (t, lt-ltb (x .registers .controls .limit) d h, or-true)
+
+in-shutdown : (x : Device) (d : ℕ) → testOn x ≡ false → odd (x .registers .config .s) ≡ false → dark x d ≡ true
+in-shutdown x d t s = rw (t, s)
+
+lit-in-test : (x : Device) (d : ℕ) → testOn x ≡ true → dark x d ≡ false
+lit-in-test x d t = rw t
+
+seven-in-test : (x : Device) (i : ℕ) → testOn x ≡ true → brightnessOf x i ≡ 7
+seven-in-test x i t = rw t
+
+duty-cycles : map sixteenths sixteenNumbers ≡ table26
+duty-cycles = refl
+
+own-nibbles : map (ownNibble table27) sixteenNumbers ≡ sixteenNumbers
+own-nibbles = refl
+
+by-nibbles : (x y : Device) (i : ℕ)
+    → x .registers .controls .test ≡ y .registers .controls .test
+    → x .registers .config .i ≡ y .registers .config .i
+    → x .registers .controls .global ≡ y .registers .controls .global
+    → x .registers .intensities ≡ y .registers .intensities
+    → brightnessOf x i ≡ brightnessOf y i
+by-nibbles x y i t c g n = simp (t, c, g, n)
+
+refused : (x : Device) (i : ℕ) → 15 < i → brightnessAnswer x i ≡ record { number = 6; sixteenths = 0 }
+refused x i h = rw (le-ltb i 16 (omega arith))
+
+answered : (x : Device) (i : ℕ) → i ≤ 15 → brightnessAnswer x i ≡ record { number = 0; sixteenths = brightnessOf x i }
+answered x i h = rw (lt-ltb i 16 (omega arith))
+
+pub tabled : BrightnessTables
+tabled =
+    record {
+      to-the-limit = to-the-limit;
+      above-the-limit = above-the-limit;
+      in-shutdown = in-shutdown;
+      lit-in-test = lit-in-test;
+      seven-in-test = seven-in-test;
+      duty-cycles = duty-cycles;
+      own-nibbles = own-nibbles;
+      by-nibbles = by-nibbles;
+      refused = refused;
+      answered = answered;
+    }

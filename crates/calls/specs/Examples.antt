@@ -1,16 +1,17 @@
--- Document 01, "Bench examples", in one table: what the definitions give beside what the document says.
+-- Document 01, "Bench examples", in one table, and "Numbers a call may give", row by row: what the definitions give beside what the document says.
 -- Assumes nothing.
 use Prim.Native.Nat.{ℕ}
 use mathlib.Core.List.{List, [], _∷_, _++_, map}
-use mathlib.Core.Path.{_≡_}
 use lib.ListN.{replicate}
+use Rattle.words.specs.Lists.{tabulate, Agree}
 use Rattle.device.specs.PowerUp.{powerUp}
+use Rattle.device.specs.Record.{withPins, withBlink}
 use Rattle.device.specs.Examples.{rows as driverRows}
 use Rattle.device.specs.declared.Device.{Device}
 use Rattle.display.specs.Examples.{rows as displayRows}
-use Rattle.calls.specs.Calls.{scan, Call, access, give}
+use Rattle.calls.specs.Calls.{scan, levels, Question, plane, segments, brightness, shown, interrupt, Call, access, give, ask}
 use Rattle.calls.specs.Served.{recordOf}
-use Rattle.calls.specs.Outcome.{number}
+use Rattle.calls.specs.Outcome.{number, reply}
 use Rattle.calls.specs.Lists.{afterAll, numbers, replies}
 
 -- a chain of n drivers at power-up
@@ -78,6 +79,77 @@ chainRows =
 abbrev pub rows : List (List ℕ × List ℕ)
 rows = chainRows ++ driverRows ++ displayRows
 
--- the two agree in every row
-abbrev pub Examples : Type 0
-Examples = map (λ (row : List ℕ × List ℕ). row .0) rows ≡ map (λ (row : List ℕ × List ℕ). row .1) rows
+-- a plane whose digits hold their own places
+abbrev pub lent : List ℕ
+lent = tabulate 16 (λ i. i)
+
+-- a glyph table
+abbrev pub font : List ℕ
+font = replicate 128 0
+
+-- the number of a question to driver 1 of one
+abbrev pub asked : Question → ℕ
+asked q = number (ask 1 q) (fresh 1)
+
+-- the number of pin levels for driver 1 of a chain
+abbrev pub given : List Device → ℕ → ℕ
+given ds l = number (give 1 (levels l)) ds
+
+-- "Numbers a call may give"
+abbrev pub numberRows : List (List ℕ × List ℕ)
+numberRows =
+    -- 1: the chain has 0 or more than 16 records
+    (map (λ n. number (ask 1 interrupt) (fresh n)) (0 ∷ 1 ∷ 16 ∷ 17 ∷ []), 1 ∷ 0 ∷ 0 ∷ 1 ∷ [])
+    -- 2: driver number not in 1..n
+    ∷ (map (λ j. number (ask j interrupt) (fresh 2)) (0 ∷ 1 ∷ 2 ∷ 3 ∷ []), 2 ∷ 0 ∷ 0 ∷ 2 ∷ [])
+    -- 4: sent bytes fewer than the clocks need, 5: room for answer bytes fewer
+    ∷ (
+      number (access 16 (4 ∷ []) (0 ∷ 0 ∷ [])) (fresh 1) ∷ number (access 16 (4 ∷ 1 ∷ []) (0 ∷ [])) (fresh 1) ∷ number (access 17 (4 ∷ 1 ∷ []) (0 ∷ 0 ∷ 0 ∷ [])) (fresh 1) ∷ [],
+      4 ∷ 5 ∷ 4 ∷ [],
+    )
+    -- 6: cathode above 7, pin levels above 31, a digit above 15, alone or in a range, a range's last digit below its first
+    ∷ (map (λ d. asked (segments d font font)) (7 ∷ 8 ∷ []), 0 ∷ 6 ∷ [])
+    ∷ (map (given (fresh 1)) (0 ∷ 16 ∷ 31 ∷ 32 ∷ []), 0 ∷ 0 ∷ 0 ∷ 6 ∷ [])
+    ∷ (map (λ i. asked (brightness i)) (15 ∷ 16 ∷ []), 0 ∷ 6 ∷ [])
+    ∷ (map (λ l. asked (plane lent lent 5 l)) (4 ∷ 5 ∷ 15 ∷ 16 ∷ []), 6 ∷ 0 ∷ 0 ∷ 6 ∷ [])
+    -- a lent plane not 16 long, or a glyph table not 128 long
+    ∷ (map (λ n. asked (plane (replicate n 0) lent 0 0)) (15 ∷ 16 ∷ 17 ∷ []), 6 ∷ 0 ∷ 6 ∷ [])
+    ∷ (map (λ n. asked (plane lent (replicate n 0) 0 0)) (15 ∷ 16 ∷ 17 ∷ []), 6 ∷ 0 ∷ 6 ∷ [])
+    ∷ (map (λ n. asked (segments 0 (replicate n 0) font)) (127 ∷ 128 ∷ 129 ∷ []), 6 ∷ 0 ∷ 6 ∷ [])
+    ∷ (map (λ n. asked (segments 0 font (replicate n 0))) (127 ∷ 128 ∷ 129 ∷ []), 6 ∷ 0 ∷ 6 ∷ [])
+    -- 7: some record isn't sound, here of six pin levels, or a blink count of 4,000,000
+    ∷ (map (λ l. number (ask 1 interrupt) (powerUp ∷ withPins powerUp l ∷ [])) (31 ∷ 32 ∷ []), 0 ∷ 7 ∷ [])
+    ∷ (map (λ k. number (ask 1 interrupt) (withBlink powerUp k ∷ [])) (3999999 ∷ 4000000 ∷ []), 0 ∷ 7 ∷ [])
+    -- the lowest that applies is given: 1 and 2, 2 and 6, 3 and 4, 4 and 5, 6 and 7
+    ∷ (
+      given (fresh 0) 0
+          ∷ number (give 2 (levels 32)) (fresh 1)
+          ∷ number (access 4097 [] []) (fresh 1)
+          ∷ number (access 16 [] []) (fresh 1)
+          ∷ given (withPins powerUp 32 ∷ []) 32
+          ∷ given (withPins powerUp 32 ∷ []) 31
+          ∷ [],
+      1 ∷ 2 ∷ 3 ∷ 4 ∷ 6 ∷ 7 ∷ [],
+    )
+    ∷ []
+
+-- what calls give back, served or refused
+abbrev pub answerRows : List (List ℕ × List ℕ)
+answerRows =
+    -- "Blink": digits 2 to 4, both included, and one digit alone
+    (reply (ask 1 (plane lent lent 2 4)) (fresh 1), 2 ∷ 3 ∷ 4 ∷ [])
+    ∷ (reply (ask 1 (plane lent lent 15 15)) (fresh 1), 15 ∷ [])
+    -- refused: an answer that would hold a number holds 0, a segment answer has no pin driven, a returned part is empty
+    ∷ (reply (ask 1 (brightness 16)) (fresh 1) ++ reply (ask 2 shown) (fresh 1) ++ reply (ask 2 interrupt) (fresh 1), 0 ∷ 0 ∷ 0 ∷ [])
+    ∷ (reply (ask 1 (segments 8 font font)) (fresh 1), replicate 19 0)
+    ∷ (reply (ask 1 (plane lent lent 5 4)) (fresh 1), [])
+    -- nothing changes: neither the room nor the record
+    ∷ (reply (access 16 (0x03 ∷ []) (0xEE ∷ 0xEE ∷ [])) (fresh 1), 0xEE ∷ 0xEE ∷ [])
+    ∷ (stateOf (access 16 (0x03 ∷ 0x03 ∷ []) (0xEE ∷ []) ∷ []) (fresh 1) 1, 0 ∷ 0 ∷ 7 ∷ [])
+    ∷ []
+
+-- what the definitions give is what the document says
+pub record Examples : Type 0 where
+  pub bench : Agree rows
+  pub numbers : Agree numberRows
+  pub answers : Agree answerRows

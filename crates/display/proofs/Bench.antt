@@ -1,9 +1,17 @@
--- The bench examples of the display, by computation.
+-- The examples of the display, by computation.
 -- Assumes nothing.
 use mathlib.Core.Path.{refl}
+use Rattle.words.specs.Lists.{Agree}
 use Rattle.device.specs.Words.{taken}
-use Rattle.display.specs.Examples.{Examples}
+use Rattle.display.specs.Examples.{rows, segmentRows, Examples}
 
-pub bench : Examples
+bench : Agree rows
 unfolding taken
 bench = refl
+
+bench-segments : Agree segmentRows
+unfolding taken
+bench-segments = refl
+
+pub examples : Examples
+examples = record { bench = bench; segments = bench-segments }

@@ -1,18 +1,19 @@
--- Document 01, "Bench examples", those of the display: what the definitions give beside what the document says.
+-- Document 01, "Bench examples", those of the display, and more of "Segments and brightness": what the definitions give beside what the document says.
 -- Assumes nothing.
 use Prim.Native.Nat.{ℕ, _+_}
 use mathlib.Core.List.{List, [], _∷_, map}
-use mathlib.Core.Path.{_≡_}
+use Rattle.words.specs.Lists.{Agree}
 use Rattle.device.specs.PowerUp.{powerUp}
 use Rattle.device.specs.Record.{withFitted}
 use Rattle.device.specs.Words.{taken}
+use Rattle.device.specs.Table15.{after}
 use Rattle.device.specs.declared.Device.{Device}
 use Rattle.wiring.specs.Wiring.{Segment, glyph, point, first, cathode, notDriven, carries, wireAt}
 use Rattle.wiring.specs.Table.{wireEntry}
 use Rattle.brightness.specs.Brightness.{brightnessOf}
 use Rattle.display.specs.Cathode.{displayOf}
 use Rattle.display.specs.Pins.{pinNumber, pinAt}
-use Rattle.display.specs.declared.Pin.the-variants.{Lit, Unlit}
+use Rattle.display.specs.declared.Pin.the-variants.{NotDriven, Cathode, Lit, Unlit, NoSegment}
 
 -- what pins carry for a cathode, by number
 abbrev pub wiresOf : Device → ℕ → List ℕ → List ℕ
@@ -26,7 +27,11 @@ pinsOf x d pins = map (λ p. pinNumber (pinAt x d [] [] p)) pins
 abbrev pub segment : Segment → ℕ
 segment s = wireEntry (carries s)
 
--- each example as what is evaluated and what the document says
+-- whether each cathode's own pin is driven
+abbrev pub pinsAtOwn : Device → List ℕ → List ℕ
+pinsAtOwn x ds = map (λ d. pinNumber (pinAt x d [] [] d)) ds
+
+-- "Bench examples"
 abbrev pub rows : List (List ℕ × List ℕ)
 rows =
     -- 6: nibbles 0, E, F: 1, 15, 15; the global one, and those of digits 0, 0a, 1a
@@ -49,6 +54,33 @@ rows =
     )
     ∷ []
 
--- the two agree in every row
-abbrev pub Examples : Type 0
-Examples = map (λ (row : List ℕ × List ℕ). row .0) rows ≡ map (λ (row : List ℕ × List ℕ). row .1) rows
+-- "Segments and brightness", beside the bench examples
+abbrev pub segmentRows : List (List ℕ × List ℕ)
+segmentRows =
+    -- in shutdown, and above a scan limit of 3, a cathode is dark; in test none is
+    (pinsAtOwn powerUp (0 ∷ 7 ∷ []), map pinNumber (NotDriven ∷ NotDriven ∷ []))
+    ∷ (pinsAtOwn (after powerUp (0x0401 ∷ 0x0303 ∷ [])) (0 ∷ 3 ∷ 4 ∷ 7 ∷ []), map pinNumber (Cathode ∷ Cathode ∷ NotDriven ∷ NotDriven ∷ []))
+    ∷ (pinsAtOwn (after powerUp (0x0701 ∷ 0x0303 ∷ [])) (0 ∷ 3 ∷ 4 ∷ 7 ∷ []), map pinNumber (Cathode ∷ Cathode ∷ Cathode ∷ Cathode ∷ []))
+    -- test lights every segment of a 7-segment pair, of which O3 of cathode 0 carries none; 7 sixteenths, whatever the nibbles
+    ∷ (pinsOf (taken powerUp 0x0701) 0 (1 ∷ 2 ∷ 3 ∷ 4 ∷ 18 ∷ []), map pinNumber (NotDriven ∷ Lit ∷ NoSegment ∷ Lit ∷ Lit ∷ []))
+    ∷ (map (λ n. brightnessOf (after powerUp (0x0701 ∷ (0x0200 + n) ∷ [])) 0) (0x0 ∷ 0xF ∷ []), 7 ∷ 7 ∷ [])
+    -- 0x13 holds digits 6 and 7, the odd one in the high nibble
+    ∷ (map (λ i. brightnessOf (after powerUp (0x0441 ∷ 0x1321 ∷ [])) i) (5 ∷ 6 ∷ 7 ∷ 14 ∷ []), 1 ∷ 2 ∷ 3 ∷ 1 ∷ [])
+    -- brightness doesn't depend on darkness: in shutdown, and above the scan limit
+    ∷ (map (λ i. brightnessOf (after powerUp (0x020A ∷ 0x0300 ∷ [])) i) (0 ∷ 7 ∷ []), 11 ∷ 11 ∷ [])
+    -- cathode 0 is 14-segment, under its own table: a word of bit 11 lights d, O6, alone
+    ∷ (
+      map (λ p. pinNumber (pinAt (after powerUp (0x0401 ∷ 0x0C01 ∷ 0x2000 ∷ [])) 0 (0x0800 ∷ []) (0xF7FF ∷ []) p)) (2 ∷ 3 ∷ 6 ∷ 7 ∷ 18 ∷ []),
+      map pinNumber (Unlit ∷ NoSegment ∷ Lit ∷ NoSegment ∷ Unlit ∷ []),
+    )
+    -- and 16-segment under the other one, where no 7-segment pair is fitted
+    ∷ (
+      map (λ p. pinNumber (pinAt (after (withFitted powerUp 0) (0x0401 ∷ 0x2000 ∷ [])) 0 (0x0800 ∷ []) (0xF7FF ∷ []) p)) (2 ∷ 3 ∷ 6 ∷ 7 ∷ 18 ∷ []),
+      map pinNumber (Lit ∷ Lit ∷ Unlit ∷ Lit ∷ Unlit ∷ []),
+    )
+    ∷ []
+
+-- what the definitions give is what the document says
+pub record Examples : Type 0 where
+  pub bench : Agree rows
+  pub segments : Agree segmentRows

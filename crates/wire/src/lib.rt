@@ -6,6 +6,7 @@ ghost use lib.ListN.{length, getD, take, drop};
 ghost use Rattle.wire.specs.Bits.{bits, value, unpack, pack, bytesFor};
 ghost use Rattle.wire.specs.Wire.{words, answer, shifted};
 ghost use Rattle.wire.specs.Shift.{sizeNumber, wordsAfter, roomAfter};
+ghost use Rattle.wire.specs.Sizes.{Sizes};
 ghost use Rattle.wire.specs.Whole.{WholeAccess};
 ghost use Rattle.wire.specs.Line.{wordBytes};
 
@@ -162,4 +163,9 @@ pub fn shift(words: &mut [u16], n: usize, clocks: usize, sent: &[u8], room: &mut
 // A theorem: an access of at least 16 clocks for each driver.
 pub fn whole_access()
     ensures { λ _. ⌜ WholeAccess ⌝ }
+{}
+
+// A theorem: the numbers 3, 4 and 5 of an access, by bits.
+pub fn sizes()
+    ensures { λ _. ⌜ Sizes ⌝ }
 {}

@@ -1,16 +1,17 @@
 -- The table obeys the rule, by one test that is computed over its 456 entries.
 -- Assumes nothing.
-use Prim.Native.Nat.{ℕ, _+_, _*_, _<_, _≤_}
+use Prim.Native.Nat.{ℕ, _+_, _-_, _*_, _<_, _≤_}
 use mathlib.Core.Bool.{Bool, true, _&&_}
+use mathlib.Core.List.{[], _∷_, _++_}
 use mathlib.Core.Path.{_≡_, refl}
 use lib.Dec.{eqb}
-use lib.ListN.{getD}
+use lib.ListN.{getD, set}
 use borrow.Author.Tests.{eqb-true, lt-ltb, le-ltb}
 use Rattle.words.specs.Lists.{tabulate}
 use Rattle.words.proofs.Below.{all, all-at}
 use Rattle.words.proofs.Lists.{tabulate-ext}
 use Rattle.words.proofs.Truth.{and-left, and-right}
-use Rattle.wiring.specs.Wiring.{none, cathode, notDriven, listOf, partner, ruleAt, wireAt}
+use Rattle.wiring.specs.Wiring.{none, glyph, point, sixteen, fourteen, cathode, notDriven, listOf, partner, ruleAt, wireAt}
 use Rattle.wiring.specs.Table.{segmentEntry, wireEntry, displayNumber, table, entryAt, others, WiringTable}
 use Rattle.wiring.specs.declared.Display.{Display}
 use Rattle.wiring.specs.declared.Display.the-variants.{Sixteen, Fourteen, SevenPair}
@@ -57,8 +58,24 @@ module _ (k : Display) (d : ℕ) (h : d < 8) where
   unfolding ruled
   entry-at p l = eqb-true _ _ (all-at (ruled k d) 19 (and-right (all (listed k d) 17) _ (and-right (next k d) _ rest)) p l)
 
+-- the lists of 16 and of 14 segments by the bits of a glyph word
+sixteen-bits : sixteen ≡ tabulate 16 (λ r. glyph (15 - r)) ++ point ∷ []
+unfolding tabulate
+sixteen-bits = refl
+
+fourteen-bits : fourteen ≡ set (set sixteen 1 none) 5 none
+fourteen-bits = refl
+
 pub wired : WiringTable
-wired = record { cathodes = cathode-at; partners = partner-at; segments = λ k d r h. segments-at k d h r; entries = λ k d p h. entry-at k d h p }
+wired =
+    record {
+      cathodes = cathode-at;
+      partners = partner-at;
+      segments = λ k d r h. segments-at k d h r;
+      entries = λ k d p h. entry-at k d h p;
+      sixteen-bits = sixteen-bits;
+      fourteen-bits = fourteen-bits;
+    }
 
 -- the row of a cathode, and of a number that is none
 pub wired-row : (k : Display) (d n : ℕ) → d < 8 → n ≡ displayNumber k → tabulate 19 (λ p. getD table (n * 152 + d * 19 + p) 0) ≡ tabulate 19 (λ p. wireEntry (wireAt k d p))

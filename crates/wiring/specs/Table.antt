@@ -1,13 +1,14 @@
 -- Document 01, "Segments and brightness": the wiring as one table of 456 entries, row for row Tables 2 to 4.
 -- Assumes nothing.
-use Prim.Native.Nat.{ℕ, _+_, _*_, _<_}
+use Prim.Native.Nat.{ℕ, _+_, _-_, _*_, _<_}
 use mathlib.Core.Bool.{_||_}
 use mathlib.Core.List.{List, [], _∷_, _++_}
 use mathlib.Core.Path.{_≡_}
 use lib.Dec.{eqb}
-use lib.ListN.{getD}
+use lib.ListN.{getD, set}
 use Rattle.words.specs.Choice.{if}
-use Rattle.wiring.specs.Wiring.{Segment, none, glyph, point, first, second, Wire, cathode, notDriven, carries, listOf, partner, ruleAt}
+use Rattle.words.specs.Lists.{tabulate}
+use Rattle.wiring.specs.Wiring.{Segment, none, glyph, point, first, second, sixteen, fourteen, Wire, cathode, notDriven, carries, listOf, partner, ruleAt}
 use Rattle.wiring.specs.declared.Display.{Display}
 use Rattle.wiring.specs.declared.Display.the-variants.{Sixteen, Fourteen, SevenPair}
 
@@ -88,9 +89,11 @@ abbrev pub others : ℕ → List ℕ
 others d = othersOf d (0 ∷ 1 ∷ 2 ∷ 3 ∷ 4 ∷ 5 ∷ 6 ∷ 7 ∷ 8 ∷ 9 ∷ 10 ∷ 11 ∷ 12 ∷ 13 ∷ 14 ∷ 15 ∷ 16 ∷ 17 ∷ 18 ∷ [])
 
 -- the table obeys the rule: pin d is the cathode, its partner isn't driven, the other 17 in rising order carry the display's list; `entries`
--- says the same entry by entry, by `ruleAt`
+-- says the same entry by entry, by `ruleAt`. The lists: bit 15 down to 0 of a glyph word are a1 to m, and a 14-segment digit skips bits 14 and 10
 pub record WiringTable : Type 0 where
   pub cathodes : (k : Display) (d : ℕ) → d < 8 → entryAt k d d ≡ wireEntry cathode
   pub partners : (k : Display) (d : ℕ) → d < 8 → entryAt k d (partner d) ≡ wireEntry notDriven
   pub segments : (k : Display) (d r : ℕ) → d < 8 → r < 17 → entryAt k d (getD (others d) r 0) ≡ segmentEntry (getD (listOf k) r none)
   pub entries : (k : Display) (d p : ℕ) → d < 8 → p < 19 → entryAt k d p ≡ wireEntry (ruleAt k d p)
+  pub sixteen-bits : sixteen ≡ tabulate 16 (λ r. glyph (15 - r)) ++ point ∷ []
+  pub fourteen-bits : fourteen ≡ set (set sixteen 1 none) 5 none

@@ -1,0 +1,10 @@
+-- `wire::sizes` meets its contract. Assumes nothing.
+use Rattle.wire.proofs.SizeLaws.{sizes}
+use Rattle.wire.proofs.sizes.Statement.{statement}
+use Rattle.wire.proofs.sizes.Tie as tie
+
+returns : tie.Need-returns
+returns c = sizes
+
+pub sizes-spec : {M : Type 1} → statement M
+sizes-spec = tie.close (tie.spec returns)

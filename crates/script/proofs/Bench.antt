@@ -1,4 +1,4 @@
--- The document's script and the first line's cases, by one computation.
+-- The document's script, the first line's cases and the other lines, by computation.
 -- Assumes nothing.
 use mathlib.Core.Path.{refl}
 use Rattle.words.specs.Lists.{tabulate}
@@ -10,8 +10,19 @@ use Rattle.calls.specs.Outcome.{number, after, reply}
 use Rattle.script.specs.Lines.{each}
 use Rattle.script.specs.Format.{itemsAfter}
 use Rattle.script.specs.Script.{runLines, printed}
-use Rattle.script.specs.Examples.{Examples}
+use Rattle.script.specs.Examples.{rows, lineRows, scanRows, Printed, Examples}
 
-pub bench : Examples
+bench : Printed rows
 unfolding tabulate bits value unpack byteAt pack wordAt string words wire answer shifted taken allSound number after reply each itemsAfter runLines printed
 bench = refl
+
+bench-lines : Printed lineRows
+unfolding tabulate bits value unpack byteAt pack wordAt string words wire answer shifted taken allSound number after reply each itemsAfter runLines printed
+bench-lines = refl
+
+bench-scans : Printed scanRows
+unfolding tabulate bits value unpack byteAt pack wordAt string words wire answer shifted taken allSound number after reply each itemsAfter runLines printed
+bench-scans = refl
+
+pub examples : Examples
+examples = record { bench = bench; lines = bench-lines; scans = bench-scans }

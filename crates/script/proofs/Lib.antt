@@ -3,4 +3,5 @@ pub mod FormatLaws
 pub mod RunLaws
 pub mod LoopLaws
 pub mod StartLaws
+pub mod Limited
 pub mod Bench

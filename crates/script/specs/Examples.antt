@@ -3,7 +3,7 @@
 use Prim.Native.Nat.{ℕ}
 use mathlib.Core.List.{List, [], _∷_, _++_, map}
 use mathlib.Core.Path.{_≡_}
-use lib.ListN.{length}
+use lib.ListN.{length, replicate}
 use Rattle.script.specs.Script.{printed}
 
 -- a record of a kind, with a short body
@@ -67,6 +67,38 @@ rows =
     ∷ (chainRecord 17 ++ accessRecord 0x04 0x01, 0x52 ∷ 0x20 ∷ 0x31 ∷ 0x0A ∷ [])
     ∷ []
 
--- the two agree in every row
-abbrev pub Examples : Type 0
-Examples = map (λ (row : List ℕ × List ℕ). printed (row .0)) rows ≡ map (λ (row : List ℕ × List ℕ). row .1) rows
+-- lines that the rows above don't have
+abbrev pub lineRows : List (List ℕ × List ℕ)
+lineRows =
+    -- `A` alone for 0 clocks: `chain 1`, `A`
+    (
+      chainRecord 1 ++ entry 2 (0 ∷ 0 ∷ []),
+      0x63 ∷ 0x68 ∷ 0x61 ∷ 0x69 ∷ 0x6E ∷ 0x20 ∷ 0x31 ∷ 0x0A ∷ 0x41 ∷ 0x0A ∷ [],
+    )
+    -- a show where dark, 19 `-`: `chain 1`, `S -------------------`
+    ∷ (
+      chainRecord 1 ++ entry 6 (1 ∷ 0 ∷ []),
+      (0x63 ∷ 0x68 ∷ 0x61 ∷ 0x69 ∷ 0x6E ∷ 0x20 ∷ 0x31 ∷ 0x0A ∷ []) ++ (0x53 ∷ 0x20 ∷ []) ++ replicate 19 0x2D ++ (0x0A ∷ []),
+    )
+    ∷ []
+
+-- kind 3: driver, four bytes A to D. Pressed keys B read 2: `chain 1`, `A 0000`, `A 0680`, `A 8D02`
+abbrev pub scanRows : List (List ℕ × List ℕ)
+scanRows = (
+  chainRecord 1 ++ accessRecord 0x06 0x80 ++ entry 3 (1 ∷ 1 ∷ 2 ∷ 4 ∷ 8 ∷ []) ++ accessRecord 0x8D 0x00 ++ accessRecord 0x00 0x00,
+  (0x63 ∷ 0x68 ∷ 0x61 ∷ 0x69 ∷ 0x6E ∷ 0x20 ∷ 0x31 ∷ 0x0A ∷ [])
+      ++ (0x41 ∷ 0x20 ∷ 0x30 ∷ 0x30 ∷ 0x30 ∷ 0x30 ∷ 0x0A ∷ [])
+      ++ (0x41 ∷ 0x20 ∷ 0x30 ∷ 0x36 ∷ 0x38 ∷ 0x30 ∷ 0x0A ∷ [])
+      ++ (0x41 ∷ 0x20 ∷ 0x38 ∷ 0x44 ∷ 0x30 ∷ 0x32 ∷ 0x0A ∷ []),
+)
+    ∷ []
+
+-- the lines printed are those of the row, in every row of a table
+abbrev pub Printed : List (List ℕ × List ℕ) → Type 0
+Printed table = map (λ (row : List ℕ × List ℕ). printed (row .0)) table ≡ map (λ (row : List ℕ × List ℕ). row .1) table
+
+-- what the definitions print is what the document says
+pub record Examples : Type 0 where
+  pub bench : Printed rows
+  pub lines : Printed lineRows
+  pub scans : Printed scanRows

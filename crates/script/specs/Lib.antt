@@ -2,5 +2,6 @@ pub mod Lines
 pub mod Format
 pub mod Script
 pub mod Run
+pub mod Limits
 pub mod Steps
 pub mod Examples

@@ -11,6 +11,7 @@ ghost use lib.ListN.{length, drop};
 ghost use Rattle.script.specs.Format.{testTable, callOf, lengthFits, items};
 ghost use Rattle.script.specs.Script.{freshChain, runLines, itemsPrinted, longest, printed};
 ghost use Rattle.script.specs.Run.{roomFor, ranOf, outAfter};
+ghost use Rattle.script.specs.Limits.{Limits};
 ghost use Rattle.script.specs.Examples.{Examples};
 ghost use Rattle.script.specs.Steps.{Written, Given, Obeyed, Started};
 use format::byte;
@@ -238,6 +239,11 @@ pub fn print_all(script: &[u8], out: &mut [u8; 262160]) -> usize
     let ran = run(script, out);
     ran.length
 }
+
+// A theorem: what a script's length and a run's room decide.
+pub fn limits()
+    ensures { λ _. ⌜ Limits ⌝ }
+{}
 
 // A theorem: document 01's script prints its four lines, one of every other kind its own, and the first line is as it says in each case.
 pub fn examples()

@@ -1,10 +1,10 @@
 -- `script::examples` meets its contract. Assumes nothing.
-use Rattle.script.proofs.Bench.{bench}
+use Rattle.script.proofs.Bench.{examples}
 use Rattle.script.proofs.examples.Statement.{statement}
 use Rattle.script.proofs.examples.Tie as tie
 
 returns : tie.Need-returns
-returns c = bench
+returns c = examples
 
 pub examples-spec : {M : Type 1} → statement M
 examples-spec = tie.close (tie.spec returns)

@@ -1,0 +1,21 @@
+-- Document 01, number 9, and a run without room: what scripts of every length do.
+-- Assumes nothing.
+use Prim.Native.Nat.{ℕ, _+_, _*_, _<_, _≤_}
+use mathlib.Core.List.{List}
+use mathlib.Core.Path.{_≡_}
+use lib.ListN.{length}
+use Rattle.script.specs.Lines.{refusalLine}
+use Rattle.script.specs.Format.{items}
+use Rattle.script.specs.Script.{itemsPrinted, printed}
+use Rattle.script.specs.Run.{ranOf, outAfter}
+
+-- by a script's length, and by the room
+pub record Limits : Type 0 where
+  -- 9: longer than 65,536 bytes
+  pub too-long : (s : List ℕ) → 65536 < length s → printed s ≡ refusalLine 9
+  pub not-too-long : (s : List ℕ) → length s ≤ 65536 → printed s ≡ itemsPrinted (items s)
+  -- 5: room fewer than what is printed may need; nothing is written
+  pub no-room : (s out : List ℕ) → length s ≤ 65536 → length out < 16 + 4 * length s
+      → (ranOf s out ≡ record { number = 5; length = 0 }) × (outAfter s out ≡ out)
+  -- else 0, and how many bytes are printed
+  pub room : (s out : List ℕ) → length s ≤ 65536 → 16 + 4 * length s ≤ length out → ranOf s out ≡ record { number = 0; length = length (printed s) }

@@ -50,5 +50,13 @@ part-digit shown p0 p1 first k last e h =
     let l : k < last + 1 - first = omega arith in
     rw (e, getD-take, getD-drop)
 
+p0-digit : (p0 p1 : List ℕ) (first k last : ℕ) → planeNumber p0 p1 first last ≡ 0 → first + k ≤ last
+    → getD (planePart P0 p0 p1 first last) k 0 ≡ getD p0 (first + k) 0
+p0-digit p0 p1 first k last = part-digit P0 p0 p1 first k last
+
+p1-digit : (p0 p1 : List ℕ) (first k last : ℕ) → planeNumber p0 p1 first last ≡ 0 → first + k ≤ last
+    → getD (planePart P1 p0 p1 first last) k 0 ≡ getD p1 (first + k) 0
+p1-digit p0 p1 first k last = part-digit P1 p0 p1 first k last
+
 pub part-digits : PartDigits
-part-digits = record { size = part-size; digit = part-digit }
+part-digits = record { size = part-size; of-p0 = p0-digit; of-p1 = p1-digit }

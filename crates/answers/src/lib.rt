@@ -1,7 +1,7 @@
 // What a driver of a chain answers to a question, by value: refused with a number, or from its record.
 ghost use mathlib.Core.Path.{_≡_};
 ghost use mathlib.Core.List.{[]};
-ghost use Rattle.words.specs.Lists.{tabulate};
+ghost use Rattle.ground.specs.Lists.{tabulate};
 ghost use Rattle.device.specs.Steps.{shownPlane};
 ghost use Rattle.display.specs.Pins.{pinNumber};
 ghost use Rattle.display.specs.declared.Pin.the-variants.{NotDriven};

@@ -6,7 +6,7 @@ use mathlib.Core.Bool.{Bool, true, false}
 use mathlib.Core.Path.{_≡_, refl}
 use lib.Dec.{ltb}
 use borrow.Author.Tests.{lt-ltb, le-ltb, ltb-true, ltb-false}
-use Rattle.words.specs.Choice.{if}
+use Rattle.ground.specs.Choice.{if}
 use Rattle.words.specs.declared.Plane.the-variants.{P0, P1}
 use Rattle.blink.specs.Blink.{advanced, restarted, phaseAt}
 use Rattle.blink.specs.Phases.{half, other, Phases}

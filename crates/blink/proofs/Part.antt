@@ -8,7 +8,7 @@ use lib.Dec.{eqb, leb, ltb}
 use lib.ListN.{length, getD, length-take, length-drop}
 use lib.Seq.{getD-drop, getD-take}
 use borrow.Author.Tests.{eqb-true, leb-true, ltb-true}
-use Rattle.words.proofs.Truth.{passed}
+use Rattle.ground.proofs.Truth.{passed}
 use Rattle.words.specs.declared.Plane.{Plane}
 use Rattle.words.specs.declared.Plane.the-variants.{P0, P1}
 use Rattle.blink.specs.Part.{planeNumber, lentPlane, planePart}

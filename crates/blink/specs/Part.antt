@@ -4,7 +4,7 @@ use Prim.Native.Nat.{ℕ, _+_, _-_}
 use mathlib.Core.List.{List, []}
 use lib.Dec.{eqb, leb, ltb}
 use lib.ListN.{length, take, drop}
-use Rattle.words.specs.Choice.{if}
+use Rattle.ground.specs.Choice.{if}
 use Rattle.words.specs.declared.Plane.{Plane}
 use Rattle.words.specs.declared.Plane.the-variants.{P0, P1}
 

@@ -6,7 +6,7 @@ use mathlib.Core.Bool.{true, false, or-true}
 use mathlib.Core.List.{map}
 use mathlib.Core.Path.{_≡_, refl}
 use borrow.Author.Tests.{lt-ltb, le-ltb}
-use Rattle.words.specs.Choice.{odd}
+use Rattle.ground.specs.Choice.{odd}
 use Rattle.device.specs.declared.Device.{Device}
 use Rattle.brightness.specs.Dark.{testOn, dark}
 use Rattle.brightness.specs.Brightness.{ownNibble, sixteenths, brightnessOf, brightnessAnswer}

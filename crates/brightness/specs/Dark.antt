@@ -3,7 +3,7 @@
 use Prim.Native.Nat.{ℕ}
 use mathlib.Core.Bool.{Bool, not, _&&_, _||_}
 use lib.Dec.{ltb}
-use Rattle.words.specs.Choice.{odd}
+use Rattle.ground.specs.Choice.{odd}
 use Rattle.device.specs.declared.Device.{Device}
 
 -- display test is on

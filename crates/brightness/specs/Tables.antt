@@ -4,7 +4,7 @@ use Prim.Native.Nat.{ℕ, _<_, _≤_}
 use mathlib.Core.Bool.{true, false}
 use mathlib.Core.List.{List, [], _∷_, map}
 use mathlib.Core.Path.{_≡_}
-use Rattle.words.specs.Choice.{odd}
+use Rattle.ground.specs.Choice.{odd}
 use Rattle.device.specs.declared.Device.{Device}
 use Rattle.brightness.specs.Dark.{testOn, dark}
 use Rattle.brightness.specs.Brightness.{ownNibble, sixteenths, brightnessOf, brightnessAnswer}

@@ -8,14 +8,14 @@ use mathlib.Core.Path.{_≡_, refl}
 use lib.Dec.{eqb, leb, ltb}
 use lib.ListN.{length}
 use borrow.Author.Tests.{eqb-true, eqb-false, leb-true, ltb-true, ltb-false}
-use Rattle.words.specs.Choice.{if}
-use Rattle.words.proofs.Truth.{and-left, and-right, passed}
+use Rattle.ground.specs.Choice.{if}
+use Rattle.ground.proofs.Truth.{and-left, and-right, passed}
 use Rattle.wire.specs.Bits.{bytesFor}
 use Rattle.wire.specs.Shift.{sizeNumber}
 use Rattle.wire.proofs.SizeLaws.{served as sizes-fit}
 use Rattle.device.specs.declared.Device.{Device}
 use Rattle.calls.specs.Calls.{levels, Call}
-use Rattle.calls.specs.Numbers.{chainNumber, driverNumber, namedNumber, bytesNumber, stepNumber, argumentNumber, soundNumber, allSound, firstOf, numberBy}
+use Rattle.calls.specs.Refusals.{chainNumber, driverNumber, namedNumber, bytesNumber, stepNumber, argumentNumber, soundNumber, allSound, firstOf, numberBy}
 use Rattle.calls.specs.Served.{served, givenBack, refusedBack}
 use Rattle.calls.specs.Outcome.{number, after, reply}
 use Rattle.calls.specs.Isolation.{numberAlone, accepted}

@@ -9,16 +9,16 @@ use lib.Dec.{eqb}
 use lib.ListN.{length}
 use lib.Seq.{getD-set-same, getD-set-other}
 use borrow.Author.Tests.{eqb-true, eqb-false}
-use Rattle.words.specs.Choice.{if}
+use Rattle.ground.specs.Choice.{if}
 use Rattle.wire.specs.Bits.{bytesFor}
 use Rattle.device.specs.PowerUp.{powerUp}
-use Rattle.device.specs.Words.{taken}
+use Rattle.device.specs.Taken.{taken}
 use Rattle.device.specs.declared.Device.{Device}
 use Rattle.calls.specs.Calls.{Step, Question, Call, access, give, ask}
-use Rattle.calls.specs.Numbers.{allSound}
+use Rattle.calls.specs.Refusals.{allSound}
 use Rattle.calls.specs.Served.{recordOf, stepped, answerTo, served, givenBack, refusedBack}
 use Rattle.calls.specs.Outcome.{after, reply}
-use Rattle.calls.specs.Lists.{afterAll, numbers, replies}
+use Rattle.calls.specs.CallLists.{afterAll, numbers, replies}
 use Rattle.calls.specs.Isolation.{numberAlone, accepted, loneStep, loneReply, answeredBy, loneAfter, lone, loneReplies, allAnsweredBy, Full, AllFull, Isolation}
 use Rattle.calls.proofs.Accepted.{zero-says, driver-there, sent-enough, number-alone, after-by, reply-by}
 use Rattle.calls.proofs.Records.{length-after, length-afterAll}

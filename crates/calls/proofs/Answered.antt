@@ -5,13 +5,13 @@ use native.Mathlib.Omega.{arith}
 use mathlib.Core.List.{List}
 use mathlib.Core.Path.{_≡_, _∙_}
 use lib.ListN.{length, getD, drop, length-map, List·getD-map}
-use Rattle.words.proofs.Lists.{getD-tabulate}
+use Rattle.ground.proofs.Lists.{getD-tabulate}
 use Rattle.wire.specs.Bits.{bits, value, bytesFor}
 use Rattle.wire.specs.Wire.{answer}
 use Rattle.wire.proofs.LineLaws.{length-answer}
 use Rattle.wire.proofs.WholeLaws.{whole, word-append}
 use Rattle.device.specs.PowerUp.{powerUp}
-use Rattle.device.specs.Words.{taken}
+use Rattle.device.specs.Taken.{taken}
 use Rattle.device.specs.declared.Device.{Device}
 use Rattle.calls.specs.Calls.{access}
 use Rattle.calls.specs.Served.{recordOf, shiftWords, served, givenBack}

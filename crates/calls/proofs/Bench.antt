@@ -4,13 +4,13 @@ use Prim.Native.Nat.{ℕ}
 use mathlib.Core.List.{List, []}
 use mathlib.Core.Path.{_≡_, refl, sym, ap, _∙_}
 use lib.ListN.{getD, List·getD-map}
-use Rattle.words.specs.Lists.{tabulate, Agree}
+use Rattle.ground.specs.Lists.{tabulate, Agree}
 use Rattle.wire.specs.Bits.{bits, value, unpack, byteAt, pack, wordAt}
 use Rattle.wire.specs.Wire.{string, words, wire, answer, shifted}
-use Rattle.device.specs.Words.{taken}
-use Rattle.calls.specs.Numbers.{allSound}
+use Rattle.device.specs.Taken.{taken}
+use Rattle.calls.specs.Refusals.{allSound}
 use Rattle.calls.specs.Outcome.{number, after, reply}
-use Rattle.calls.specs.Lists.{afterAll, numbers, replies}
+use Rattle.calls.specs.CallLists.{afterAll, numbers, replies}
 use Rattle.calls.specs.Examples.{rows, numberRows, answerRows, Examples}
 
 bench : Agree rows

@@ -6,19 +6,19 @@ use mathlib.Core.List.{List, [], _∷_}
 use mathlib.Core.Path.{_≡_, refl, sym, ap, _∙_}
 use lib.ListN.{length, getD, length-map, List·getD-map}
 use lib.Seq.{map-set-same}
-use Rattle.words.specs.Choice.{if, bit}
-use Rattle.words.specs.Words.{readAt}
+use Rattle.ground.specs.Choice.{if, bit}
+use Rattle.words.specs.Addresses.{readAt}
 use Rattle.wire.specs.Bits.{bits, value}
 use Rattle.registers.specs.Registers.{dataOf}
 use Rattle.device.specs.PowerUp.{powerUp}
-use Rattle.device.specs.Words.{answerWord}
+use Rattle.device.specs.Taken.{answerWord}
 use Rattle.device.specs.declared.Device.{Device}
 use Rattle.device.proofs.Shift.{shift-word}
 use Rattle.calls.specs.Calls.{Step, scan, levels, clocks, Call, access, give, ask}
-use Rattle.calls.specs.Numbers.{allSound}
+use Rattle.calls.specs.Refusals.{allSound}
 use Rattle.calls.specs.Served.{recordOf, shiftWords, stepped, served}
 use Rattle.calls.specs.Outcome.{number, after, reply}
-use Rattle.calls.specs.Lists.{afterAll}
+use Rattle.calls.specs.CallLists.{afterAll}
 use Rattle.calls.specs.Isolation.{accepted, ownWord}
 use Rattle.calls.specs.NextAccess.{NoAccess, wordTaken, NextAccess}
 use Rattle.calls.proofs.Accepted.{number-says, after-zero, reply-zero, sent-enough, after-by}

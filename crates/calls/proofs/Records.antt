@@ -9,17 +9,17 @@ use lib.Dec.{eqb}
 use lib.ListN.{length, getD, set, length-set}
 use lib.Seq.{getD-set-same, getD-set-other}
 use borrow.Author.Tests.{eqb-true, eqb-false}
-use Rattle.words.specs.Choice.{if}
-use Rattle.words.proofs.Lists.{length-tabulate}
-use Rattle.words.proofs.Truth.{and-left, and-right}
+use Rattle.ground.specs.Choice.{if}
+use Rattle.ground.proofs.Lists.{length-tabulate}
+use Rattle.ground.proofs.Truth.{and-left, and-right}
 use Rattle.device.specs.PowerUp.{powerUp}
 use Rattle.device.specs.Sound.{soundOf}
 use Rattle.device.specs.declared.Device.{Device}
 use Rattle.calls.specs.Calls.{Call, access, give, ask}
-use Rattle.calls.specs.Numbers.{allSound}
+use Rattle.calls.specs.Refusals.{allSound}
 use Rattle.calls.specs.Served.{served}
 use Rattle.calls.specs.Outcome.{number, after}
-use Rattle.calls.specs.Lists.{afterAll}
+use Rattle.calls.specs.CallLists.{afterAll}
 
 -- sound records: each is sound
 pub sound-at : (ds : List Device) → allSound ds ≡ true → (k : ℕ) → soundOf (getD ds k powerUp) ≡ true

@@ -7,17 +7,17 @@ use mathlib.Core.Path.{_≡_, refl}
 use lib.Dec.{eqb}
 use lib.ListN.{length, getD}
 use borrow.Author.Tests.{eqb-true}
-use Rattle.words.specs.Choice.{if}
-use Rattle.words.proofs.Lists.{length-tabulate, getD-tabulate}
+use Rattle.ground.specs.Choice.{if}
+use Rattle.ground.proofs.Lists.{length-tabulate, getD-tabulate}
 use Rattle.device.specs.PowerUp.{powerUp}
 use Rattle.device.specs.Sound.{soundOf}
 use Rattle.device.specs.declared.Device.{Device}
 use Rattle.device.proofs.Sound.{soundness as device-sound}
 use Rattle.calls.specs.Calls.{Step, scan, levels, clocks, Call, access, give, ask}
-use Rattle.calls.specs.Numbers.{stepNumber, allSound}
+use Rattle.calls.specs.Refusals.{stepNumber, allSound}
 use Rattle.calls.specs.Served.{recordOf, stepped, served}
 use Rattle.calls.specs.Outcome.{number, after}
-use Rattle.calls.specs.Lists.{afterAll}
+use Rattle.calls.specs.CallLists.{afterAll}
 use Rattle.calls.specs.Soundness.{Soundness}
 use Rattle.calls.proofs.Accepted.{Accepted, number-says, levels-fit}
 use Rattle.calls.proofs.Records.{sound-at, sound-all, sound-set}

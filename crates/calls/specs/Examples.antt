@@ -3,7 +3,7 @@
 use Prim.Native.Nat.{ℕ}
 use mathlib.Core.List.{List, [], _∷_, _++_, map}
 use lib.ListN.{replicate}
-use Rattle.words.specs.Lists.{tabulate, Agree}
+use Rattle.ground.specs.Lists.{tabulate, Agree}
 use Rattle.device.specs.PowerUp.{powerUp}
 use Rattle.device.specs.Record.{withPins, withBlink}
 use Rattle.device.specs.Examples.{rows as driverRows}
@@ -12,7 +12,7 @@ use Rattle.display.specs.Examples.{rows as displayRows}
 use Rattle.calls.specs.Calls.{scan, levels, Question, plane, segments, brightness, shown, interrupt, Call, access, give, ask}
 use Rattle.calls.specs.Served.{recordOf}
 use Rattle.calls.specs.Outcome.{number, reply}
-use Rattle.calls.specs.Lists.{afterAll, numbers, replies}
+use Rattle.calls.specs.CallLists.{afterAll, numbers, replies}
 
 -- a chain of n drivers at power-up
 abbrev pub fresh : ℕ → List Device

@@ -6,15 +6,15 @@ use mathlib.Core.List.{List, [], _∷_, _++_, map}
 use mathlib.Core.Path.{_≡_}
 use lib.Dec.{eqb}
 use lib.ListN.{length}
-use Rattle.words.specs.Choice.{if}
+use Rattle.ground.specs.Choice.{if}
 use Rattle.wire.specs.Bits.{bits, value, unpack, wordAt}
-use Rattle.device.specs.Words.{taken}
+use Rattle.device.specs.Taken.{taken}
 use Rattle.device.specs.declared.Device.{Device}
 use Rattle.calls.specs.Calls.{Question, Call, access, give, ask}
-use Rattle.calls.specs.Numbers.{allSound, numberBy}
+use Rattle.calls.specs.Refusals.{allSound, numberBy}
 use Rattle.calls.specs.Served.{recordOf, stepped, answerTo}
 use Rattle.calls.specs.Outcome.{reply}
-use Rattle.calls.specs.Lists.{afterAll, numbers, replies}
+use Rattle.calls.specs.CallLists.{afterAll, numbers, replies}
 
 -- the number that the table gives a call on n sound records, by its arguments alone
 abbrev pub numberAlone : ℕ → Call → ℕ

@@ -1,8 +1,8 @@
 pub mod Calls
-pub mod Numbers
+pub mod Refusals
 pub mod Served
 pub mod Outcome
-pub mod Lists
+pub mod CallLists
 pub mod Soundness
 pub mod NextAccess
 pub mod Isolation

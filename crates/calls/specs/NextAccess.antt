@@ -5,18 +5,18 @@ use mathlib.Core.Bool.{true, false}
 use mathlib.Core.List.{List, [], _∷_}
 use mathlib.Core.Path.{_≡_}
 use lib.ListN.{length, getD}
-use Rattle.words.specs.Choice.{bit}
-use Rattle.words.specs.Words.{readAt}
+use Rattle.ground.specs.Choice.{bit}
+use Rattle.words.specs.Addresses.{readAt}
 use Rattle.wire.specs.Bits.{bits, value}
 use Rattle.wire.specs.Wire.{shifted}
 use Rattle.registers.specs.Registers.{dataOf}
-use Rattle.device.specs.Words.{answerWord}
+use Rattle.device.specs.Taken.{answerWord}
 use Rattle.device.specs.declared.Device.{Device}
 use Rattle.calls.specs.Calls.{Call, access, give, ask}
-use Rattle.calls.specs.Numbers.{allSound}
+use Rattle.calls.specs.Refusals.{allSound}
 use Rattle.calls.specs.Served.{recordOf, shiftWords}
 use Rattle.calls.specs.Outcome.{number, after, reply}
-use Rattle.calls.specs.Lists.{afterAll}
+use Rattle.calls.specs.CallLists.{afterAll}
 use Rattle.calls.specs.Isolation.{accepted, ownWord}
 
 -- no call of a list is an accepted access

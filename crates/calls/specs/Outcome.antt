@@ -4,10 +4,10 @@ use Prim.Native.Nat.{ℕ}
 use mathlib.Core.List.{List}
 use lib.Dec.{eqb}
 use lib.ListN.{length}
-use Rattle.words.specs.Choice.{if}
+use Rattle.ground.specs.Choice.{if}
 use Rattle.device.specs.declared.Device.{Device}
 use Rattle.calls.specs.Calls.{Call}
-use Rattle.calls.specs.Numbers.{allSound, numberBy}
+use Rattle.calls.specs.Refusals.{allSound, numberBy}
 use Rattle.calls.specs.Served.{served, givenBack, refusedBack}
 
 -- the number of a call on a chain: 0 where it is served

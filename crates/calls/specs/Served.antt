@@ -3,7 +3,7 @@
 use Prim.Native.Nat.{ℕ, _-_}
 use mathlib.Core.List.{List, [], _∷_, _++_, map}
 use lib.ListN.{length, getD, set, drop}
-use Rattle.words.specs.Lists.{tabulate}
+use Rattle.ground.specs.Lists.{tabulate}
 use Rattle.words.specs.declared.Plane.{Plane}
 use Rattle.words.specs.declared.Plane.the-variants.{P0, P1}
 use Rattle.wire.specs.Bits.{bytesFor}
@@ -11,7 +11,7 @@ use Rattle.wire.specs.Wire.{answer, shifted}
 use Rattle.blink.specs.Part.{planePart}
 use Rattle.device.specs.PowerUp.{powerUp}
 use Rattle.device.specs.Record.{withPins}
-use Rattle.device.specs.Words.{taken}
+use Rattle.device.specs.Taken.{taken}
 use Rattle.device.specs.Steps.{scanned, clocked, shownPlane}
 use Rattle.device.specs.declared.Device.{Device}
 use Rattle.brightness.specs.Brightness.{brightnessOf}

@@ -5,8 +5,8 @@ use mathlib.Core.List.{List}
 use mathlib.Core.Path.{_≡_}
 use Rattle.device.specs.declared.Device.{Device}
 use Rattle.calls.specs.Calls.{Call}
-use Rattle.calls.specs.Numbers.{allSound}
-use Rattle.calls.specs.Lists.{afterAll}
+use Rattle.calls.specs.Refusals.{allSound}
+use Rattle.calls.specs.CallLists.{afterAll}
 
 -- after any list of calls
 abbrev pub Soundness : Type 0

@@ -12,8 +12,8 @@ use Rattle.words.specs.declared.Plane.{Plane}
 use Rattle.words.specs.declared.Plane.the-variants.{P0, P1}
 use Rattle.words.specs.declared.ControlRegister.{ControlRegister}
 use Rattle.words.specs.declared.ControlRegister.the-variants.{DecodeMode, GlobalIntensity, ScanLimit, GpioData, PortConfiguration, DisplayTest, DigitType}
-use Rattle.words.proofs.Below.{all, all-at}
-use Rattle.words.proofs.Truth.{and-left, and-right}
+use Rattle.ground.proofs.Below.{all, all-at}
+use Rattle.ground.proofs.Truth.{and-left, and-right}
 use Rattle.controls.specs.Controls.{controlWritten, soundControls}
 use Rattle.controls.specs.Config.{configOf, phaseBit, configData}
 use Rattle.controls.specs.Widths.{widthOf, storedIn, Widths}

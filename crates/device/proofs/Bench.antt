@@ -1,8 +1,8 @@
 -- The examples of one driver, by computation.
 -- Assumes nothing.
 use mathlib.Core.Path.{refl}
-use Rattle.words.specs.Lists.{Agree}
-use Rattle.device.specs.Words.{taken}
+use Rattle.ground.specs.Lists.{Agree}
+use Rattle.device.specs.Taken.{taken}
 use Rattle.device.specs.Examples.{rows, registerRows, keyRows, Examples}
 
 bench : Agree rows

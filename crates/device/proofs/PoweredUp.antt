@@ -4,7 +4,7 @@ use Prim.Native.Nat.{ℕ, _+_, _*_, _%_}
 use mathlib.Core.List.{map}
 use mathlib.Core.Path.{_≡_, refl}
 use Rattle.device.specs.PowerUp.{powerUp}
-use Rattle.device.specs.Words.{taken}
+use Rattle.device.specs.Taken.{taken}
 use Rattle.device.specs.Table15.{table15, after, full, Table15}
 
 rows-written : after full (map (λ (row : ℕ × ℕ). row .0 * 256 + row .1) table15) .registers ≡ powerUp .registers

@@ -4,17 +4,17 @@ use Prim.Native.Nat.{ℕ, _+_}
 use mathlib.Core.Bool.{true}
 use mathlib.Core.Path.{_≡_, refl}
 use borrow.Author.Tests.{lt-ltb}
-use Rattle.words.specs.Words.{wordOf}
+use Rattle.words.specs.Addresses.{wordOf}
 use Rattle.words.specs.declared.Word.{Word}
 use Rattle.words.specs.declared.Word.the-variants.{Write, Read}
-use Rattle.words.proofs.Truth.{mod-small}
+use Rattle.ground.proofs.Truth.{mod-small}
 use Rattle.keys.specs.Keys.{scannedKeys}
 use Rattle.keys.proofs.Sound.{scanned-sound}
 use Rattle.blink.specs.Blink.{advanced}
 use Rattle.registers.proofs.Sound.{parts, keys-sound, pins-sound, blink-sound, write-sound, after-sound}
 use Rattle.device.specs.Record.{withShift}
 use Rattle.device.specs.Sound.{soundOf}
-use Rattle.device.specs.Words.{obeyed, taken}
+use Rattle.device.specs.Taken.{obeyed, taken}
 use Rattle.device.specs.Steps.{scanned}
 use Rattle.device.specs.Soundness.{Soundness}
 use Rattle.device.specs.declared.Device.{Device}

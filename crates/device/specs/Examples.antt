@@ -2,9 +2,9 @@
 -- Assumes nothing.
 use Prim.Native.Nat.{ℕ, _/_, _%_}
 use mathlib.Core.List.{List, [], _∷_, map}
-use Rattle.words.specs.Lists.{Agree}
+use Rattle.ground.specs.Lists.{Agree}
 use Rattle.device.specs.PowerUp.{powerUp}
-use Rattle.device.specs.Words.{taken}
+use Rattle.device.specs.Taken.{taken}
 use Rattle.device.specs.Steps.{scanned, clocked}
 use Rattle.device.specs.Table15.{after, full}
 use Rattle.device.specs.declared.Device.{Device}

@@ -1,7 +1,7 @@
 pub mod Record
 pub mod PowerUp
 pub mod Sound
-pub mod Words
+pub mod Taken
 pub mod Steps
 pub mod Soundness
 pub mod ShiftWord

@@ -3,10 +3,10 @@
 use Prim.Native.Nat.{ℕ, _/_, _%_}
 use mathlib.Core.Bool.{true, false}
 use mathlib.Core.Path.{_≡_}
-use Rattle.words.specs.Choice.{bit}
-use Rattle.words.specs.Words.{readAt}
+use Rattle.ground.specs.Choice.{bit}
+use Rattle.words.specs.Addresses.{readAt}
 use Rattle.registers.specs.Registers.{dataOf}
-use Rattle.device.specs.Words.{answerWord, taken}
+use Rattle.device.specs.Taken.{answerWord, taken}
 use Rattle.device.specs.declared.Device.{Device}
 
 -- by every word

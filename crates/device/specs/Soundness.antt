@@ -8,7 +8,7 @@ use Rattle.registers.specs.Registers.{written, afterRead}
 use Rattle.device.specs.Record.{withRegisters, withPins, withFitted}
 use Rattle.device.specs.PowerUp.{powerUp}
 use Rattle.device.specs.Sound.{soundOf}
-use Rattle.device.specs.Words.{taken}
+use Rattle.device.specs.Taken.{taken}
 use Rattle.device.specs.Steps.{scanned, clocked}
 use Rattle.device.specs.declared.Device.{Device}
 

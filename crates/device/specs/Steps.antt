@@ -1,7 +1,7 @@
 -- Document 01, "Keys" and "Blink": a scan and master clocks given to a driver, and the plane that it shows.
 -- Assumes nothing.
 use Prim.Native.Nat.{ℕ}
-use Rattle.words.specs.Choice.{odd}
+use Rattle.ground.specs.Choice.{odd}
 use Rattle.words.specs.declared.Plane.{Plane}
 use Rattle.keys.specs.Keys.{scannedKeys}
 use Rattle.blink.specs.Blink.{advanced, shownAt}

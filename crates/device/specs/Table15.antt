@@ -4,7 +4,7 @@ use Prim.Native.Nat.{ℕ, _+_, _*_, _%_}
 use mathlib.Core.List.{List, [], _∷_, map}
 use mathlib.Core.Path.{_≡_}
 use Rattle.device.specs.PowerUp.{powerUp}
-use Rattle.device.specs.Words.{taken}
+use Rattle.device.specs.Taken.{taken}
 use Rattle.device.specs.declared.Device.{Device}
 
 -- a row that is written: the address code and the register data, X as 0. P of the control register is not stored (DECISIONS 8)

@@ -3,7 +3,7 @@ ghost use mathlib.Core.Path.{_≡_};
 ghost use Rattle.device.specs.Record.{withRegisters, withPins, withShift, withFitted};
 ghost use Rattle.device.specs.PowerUp.{powerUp};
 ghost use Rattle.device.specs.Sound.{soundOf};
-ghost use Rattle.device.specs.Words.{answerWord, answered, taken};
+ghost use Rattle.device.specs.Taken.{answerWord, answered, taken};
 ghost use Rattle.device.specs.Steps.{scanned, clocked, shownPlane};
 ghost use Rattle.device.specs.Soundness.{Soundness};
 ghost use Rattle.device.specs.ShiftWord.{ShiftWord};

@@ -1,7 +1,7 @@
 // What a MAX6954 keeps for its digits: both planes, and the intensity registers.
 ghost use mathlib.Core.Path.{_≡_};
 ghost use lib.ListN.{getD, set};
-ghost use Rattle.words.specs.Choice.{if};
+ghost use Rattle.ground.specs.Choice.{if};
 ghost use Rattle.digits.specs.Digits.{planeOf, digitWritten, bothWritten, cleared};
 ghost use Rattle.digits.specs.DigitByDigit.{DigitByDigit};
 use words::Plane;

@@ -1,8 +1,8 @@
 -- The examples of the display, by computation.
 -- Assumes nothing.
 use mathlib.Core.Path.{refl}
-use Rattle.words.specs.Lists.{Agree}
-use Rattle.device.specs.Words.{taken}
+use Rattle.ground.specs.Lists.{Agree}
+use Rattle.device.specs.Taken.{taken}
 use Rattle.display.specs.Examples.{rows, segmentRows, Examples}
 
 bench : Agree rows

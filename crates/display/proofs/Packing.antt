@@ -7,20 +7,20 @@ use mathlib.Core.Path.{_≡_, refl, ap, sym, _∙_}
 use lib.Bits.{bitAnd, bitOr, and-le-r, and-zero-r, or-zero-l, or-zero-r, and-mask}
 use lib.Dec.{eqb, ltb}
 use borrow.Author.Tests.{eqb-true, lt-ltb, ltb-true, ltb-false}
-use Rattle.words.specs.Choice.{if, bit}
-use Rattle.words.proofs.Below.{all, all-at}
-use Rattle.words.proofs.Bits.{low-bit, high-bit, not-bit}
-use Rattle.words.proofs.Truth.{same}
+use Rattle.ground.specs.Choice.{if, bit}
+use Rattle.ground.proofs.Below.{all, all-at}
+use Rattle.ground.proofs.Bits.{low-bit, high-bit, not-bit}
+use Rattle.ground.proofs.Truth.{same}
 use Rattle.wiring.specs.Wiring.{Segment, isSegment, none, glyph, point, first, second, Wire, cathode, notDriven, carries, wireAt}
 use Rattle.wiring.specs.Table.{segmentEntry, wireEntry}
-use Rattle.wiring.specs.Packed.{byteOf, packed, litNumber, entryBit, packedWires, packedPins}
+use Rattle.wiring.specs.PackedRows.{byteOf, packed, litNumber, entryBit, packedWires, packedPins}
 use Rattle.wiring.specs.declared.Display.{Display}
 use Rattle.wiring.specs.declared.Display.the-variants.{Sixteen, Fourteen, SevenPair}
 use Rattle.wiring.proofs.Bytes.{byte-packed, byte-and, byte-or, byte-add, byte-shifted, byte-repeated}
 use Rattle.display.specs.Pins.{pinNumber}
 use Rattle.display.specs.declared.Pin.the-variants.{Lit, Unlit}
-use Rattle.display.specs.Table.{pinBy}
-use Rattle.display.specs.Packed.{ones, sevenBits, carriedBy, nonzeroBytes, eightPins, wordAt}
+use Rattle.display.specs.ByTable.{pinBy}
+use Rattle.display.specs.PackedPins.{ones, sevenBits, carriedBy, nonzeroBytes, eightPins, wordAt}
 
 -- a byte that is not 0, marked in its highest bit
 marked : (v : ℕ) → v < 256 → bitOr (bitAnd v 127 + 127) v / 128 ≡ if (eqb v 0) 0 1

@@ -8,29 +8,29 @@ use mathlib.Core.Path.{_≡_, refl, ap, _∙_}
 use lib.Dec.{eqb, ltb}
 use lib.ListN.{getD}
 use borrow.Author.Tests.{lt-ltb, ltb-true}
-use Rattle.words.specs.Choice.{if, bit}
-use Rattle.words.specs.Lists.{tabulate}
-use Rattle.words.proofs.Below.{all, all-at}
-use Rattle.words.proofs.Lists.{tabulate-ext}
-use Rattle.words.proofs.Truth.{passed}
+use Rattle.ground.specs.Choice.{if, bit}
+use Rattle.ground.specs.Lists.{tabulate}
+use Rattle.ground.proofs.Below.{all, all-at}
+use Rattle.ground.proofs.Lists.{tabulate-ext}
+use Rattle.ground.proofs.Truth.{passed}
 use Rattle.device.specs.declared.Device.{Device}
 use Rattle.wiring.specs.Wiring.{Segment, isSegment, none, glyph, point, first, second, cathode, notDriven, carries, listOf, digitOf, partner, place, ruleAt, wireAt}
 use Rattle.wiring.specs.Table.{segmentEntry, wireEntry}
-use Rattle.wiring.specs.Packed.{packedRow}
+use Rattle.wiring.specs.PackedRows.{packedRow}
 use Rattle.wiring.specs.declared.Display.{Display}
 use Rattle.wiring.specs.declared.Display.the-variants.{Sixteen, Fourteen, SevenPair}
 use Rattle.wiring.specs.declared.PackedRow.{PackedRow}
 use Rattle.wiring.proofs.Wired.{wired}
 use Rattle.glyphs.specs.Glyphs.{litBy}
-use Rattle.glyphs.specs.Numbers.{segmentsBy}
+use Rattle.glyphs.specs.Masks.{segmentsBy}
 use Rattle.glyphs.proofs.Segments.{segment-by-segment}
 use Rattle.brightness.specs.Dark.{testOn, dark}
 use Rattle.display.specs.Cathode.{displayOf, shownByte, hexMode, fontOf, segmentOn}
 use Rattle.display.specs.Pins.{pinNumber, pinOf, pinAt, segmentsNumber}
 use Rattle.display.specs.declared.Pin.{Pin}
 use Rattle.display.specs.declared.Pin.the-variants.{NotDriven, Lit, Unlit}
-use Rattle.display.specs.Table.{allSegments, litSegments, pinBy, tablePin, PinByPin}
-use Rattle.display.specs.Packed.{pinsBy}
+use Rattle.display.specs.ByTable.{allSegments, litSegments, pinBy, tablePin, PinByPin}
+use Rattle.display.specs.PackedPins.{pinsBy}
 use Rattle.display.proofs.Packing.{numbered, row-pin}
 
 -- a pin's place is one of the list's

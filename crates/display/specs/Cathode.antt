@@ -4,7 +4,7 @@ use Prim.Native.Nat.{ℕ}
 use mathlib.Core.Bool.{Bool, not, _&&_, _||_}
 use mathlib.Core.List.{List}
 use lib.ListN.{getD}
-use Rattle.words.specs.Choice.{if, bit}
+use Rattle.ground.specs.Choice.{if, bit}
 use Rattle.digits.specs.Digits.{planeOf}
 use Rattle.device.specs.Steps.{shownPlane}
 use Rattle.device.specs.declared.Device.{Device}

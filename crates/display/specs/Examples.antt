@@ -2,10 +2,10 @@
 -- Assumes nothing.
 use Prim.Native.Nat.{ℕ, _+_}
 use mathlib.Core.List.{List, [], _∷_, map}
-use Rattle.words.specs.Lists.{Agree}
+use Rattle.ground.specs.Lists.{Agree}
 use Rattle.device.specs.PowerUp.{powerUp}
 use Rattle.device.specs.Record.{withFitted}
-use Rattle.device.specs.Words.{taken}
+use Rattle.device.specs.Taken.{taken}
 use Rattle.device.specs.Table15.{after}
 use Rattle.device.specs.declared.Device.{Device}
 use Rattle.wiring.specs.Wiring.{Segment, glyph, point, first, cathode, notDriven, carries, wireAt}

@@ -1,5 +1,5 @@
 pub mod Cathode
 pub mod Pins
-pub mod Table
-pub mod Packed
+pub mod ByTable
+pub mod PackedPins
 pub mod Examples

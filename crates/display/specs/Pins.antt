@@ -5,8 +5,8 @@ use mathlib.Core.Bool.{Bool}
 use mathlib.Core.List.{List}
 use lib.Dec.{eqb, ltb}
 use lib.ListN.{length}
-use Rattle.words.specs.Choice.{if}
-use Rattle.words.specs.Lists.{tabulate}
+use Rattle.ground.specs.Choice.{if}
+use Rattle.ground.specs.Lists.{tabulate}
 use Rattle.device.specs.declared.Device.{Device}
 use Rattle.wiring.specs.Wiring.{Segment, isSegment, Wire, cathode, notDriven, carries, wireAt}
 use Rattle.brightness.specs.Dark.{dark}

@@ -1,15 +1,15 @@
 // What a cathode of one MAX6954 shows.
 ghost use mathlib.Core.Path.{_≡_};
 ghost use Prim.Native.Nat.{_*_, _<_};
-ghost use Rattle.words.specs.Choice.{bit};
-ghost use Rattle.words.specs.Lists.{tabulate};
+ghost use Rattle.ground.specs.Choice.{bit};
+ghost use Rattle.ground.specs.Lists.{tabulate};
 ghost use Rattle.blink.specs.Part.{planePart};
 ghost use Rattle.device.specs.Steps.{shownPlane};
-ghost use Rattle.wiring.specs.Packed.{byteOf};
+ghost use Rattle.wiring.specs.PackedRows.{byteOf};
 ghost use Rattle.display.specs.Cathode.{displayBy};
 ghost use Rattle.display.specs.Pins.{pinNumber, segmentsNumber, pinAt, segmentsOf};
-ghost use Rattle.display.specs.Table.{shownSegments, PinByPin};
-ghost use Rattle.display.specs.Packed.{ones, carriedBy, nonzeroBytes, eightPins, wordAt, pinsOf, pinsBy};
+ghost use Rattle.display.specs.ByTable.{shownSegments, PinByPin};
+ghost use Rattle.display.specs.PackedPins.{ones, carriedBy, nonzeroBytes, eightPins, wordAt, pinsOf, pinsBy};
 ghost use Rattle.display.specs.Examples.{Examples};
 use device::Device;
 use wiring::Display;

@@ -7,12 +7,12 @@ use mathlib.Core.Path.{_≡_, refl}
 use lib.Dec.{eqb, ltb}
 use lib.ListN.{getD}
 use borrow.Author.Tests.{eqb-true, ltb-true}
-use Rattle.words.specs.Choice.{if, bit}
-use Rattle.words.proofs.Below.{all, all-at}
-use Rattle.words.proofs.Truth.{same}
-use Rattle.wiring.specs.Packed.{byteOf, packed}
+use Rattle.ground.specs.Choice.{if, bit}
+use Rattle.ground.proofs.Below.{all, all-at}
+use Rattle.ground.proofs.Truth.{same}
+use Rattle.wiring.specs.PackedRows.{byteOf, packed}
 use Rattle.glyphs.specs.Glyphs.{sevenLit}
-use Rattle.glyphs.specs.Numbers.{hexFont, sevenSegments}
+use Rattle.glyphs.specs.Masks.{hexFont, sevenSegments}
 
 -- the word of the font that has character k, and in it the character's byte
 abbrev pub word : ℕ → ℕ

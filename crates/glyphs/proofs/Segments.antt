@@ -8,14 +8,14 @@ use mathlib.Core.Path.{_≡_, refl, ap, sym, _∙_}
 use lib.Dec.{ltb}
 use lib.ListN.{getD}
 use borrow.Author.Tests.{ltb-true}
-use Rattle.words.specs.Choice.{bit}
-use Rattle.words.proofs.Below.{all-at}
-use Rattle.words.proofs.Bits.{low-bit, high-bit}
+use Rattle.ground.specs.Choice.{bit}
+use Rattle.ground.proofs.Below.{all-at}
+use Rattle.ground.proofs.Bits.{low-bit, high-bit}
 use Rattle.wiring.specs.Wiring.{Segment, none, glyph, point, first, second, sixteen, fourteen, pair, digitOf}
 use Rattle.wiring.specs.Table.{segmentEntry}
 use Rattle.wiring.specs.declared.Display.the-variants.{Sixteen, Fourteen, SevenPair}
 use Rattle.glyphs.specs.Glyphs.{litBy}
-use Rattle.glyphs.specs.Numbers.{sevenSegments, pairSegments, glyphSegments, SegmentBySegment}
+use Rattle.glyphs.specs.Masks.{sevenSegments, pairSegments, glyphSegments, SegmentBySegment}
 use Rattle.glyphs.proofs.Hex.{seven-small, seven-lit}
 
 -- a bit below w of x * 2 ^ w + y, and one from w on

@@ -5,7 +5,7 @@ use mathlib.Core.Bool.{Bool, false}
 use mathlib.Core.List.{List, [], _∷_}
 use lib.Dec.{eqb}
 use lib.ListN.{getD}
-use Rattle.words.specs.Choice.{if, bit}
+use Rattle.ground.specs.Choice.{if, bit}
 use Rattle.wiring.specs.Wiring.{Segment, none, glyph, point, first, second}
 
 -- the hex font of Table 11: a b c d e f g of the characters 0 to F, 1 being on

@@ -1,2 +1,2 @@
 pub mod Glyphs
-pub mod Numbers
+pub mod Masks

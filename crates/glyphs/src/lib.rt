@@ -2,7 +2,7 @@
 ghost use mathlib.Core.Path.{_≡_};
 ghost use Prim.Native.Nat.{_<_};
 ghost use lib.ListN.{getD};
-ghost use Rattle.glyphs.specs.Numbers.{hexFont, sevenSegments, pairSegments, glyphSegments, SegmentBySegment};
+ghost use Rattle.glyphs.specs.Masks.{hexFont, sevenSegments, pairSegments, glyphSegments, SegmentBySegment};
 
 // Table 11: a to g of a character are bits 6 to 0 of its byte.
 const HEX_LOW: u64 = 0x7E // 0: a b c d e f

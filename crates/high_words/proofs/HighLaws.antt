@@ -8,10 +8,10 @@ use mathlib.Core.Path.{_≡_}
 use lib.Dec.{eqb, ltb}
 use lib.Seq.{set-getD}
 use borrow.Author.Tests.{ltb-true, lt-ltb, le-ltb, eq-eqb, ne-eqb}
-use Rattle.words.specs.Choice.{bit}
-use Rattle.words.specs.Words.{highRegister, alikeAt, wordOf}
+use Rattle.ground.specs.Choice.{bit}
+use Rattle.words.specs.Addresses.{highRegister, alikeAt, wordOf}
 use Rattle.words.specs.declared.Word.the-variants.{Write, Read}
-use Rattle.device.specs.Words.{taken}
+use Rattle.device.specs.Taken.{taken}
 use Rattle.device.specs.declared.Device.{Device}
 use Rattle.high_words.specs.HighWords.{isHigh, highTaken}
 

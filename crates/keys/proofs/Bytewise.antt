@@ -8,7 +8,7 @@ use mathlib.Core.Path.{_≡_, refl, ap, _∙_}
 use lib.Dec.{eqb}
 use lib.Bits.{bitAnd, bitOr, and-shr, and-mod, or-shr, or-mod}
 use borrow.Author.Tests.{eqb-true, eqb-false, eq-eqb, ne-eqb}
-use Rattle.keys.specs.Packed.{joined, byteAt}
+use Rattle.keys.specs.PackedKeys.{joined, byteAt}
 
 -- what holds at each of the four places
 pub at-places : (P : ℕ → Type 0) → P 0 → P 1 → P 2 → P 3 → (j : ℕ) → j < 4 → P j

@@ -9,11 +9,11 @@ use lib.Dec.{eqb, ltb}
 use lib.ListN.{getD}
 use lib.Bits.{bitAnd, and-le-l}
 use borrow.Author.Tests.{eqb-true}
-use Rattle.words.specs.Choice.{if, bit, some}
+use Rattle.ground.specs.Choice.{if, bit, some}
 use Rattle.words.specs.declared.KeyGroup.{KeyGroup}
 use Rattle.words.specs.declared.KeyGroup.the-variants.{A, B, C, D}
-use Rattle.words.proofs.Below.{all, all-at}
-use Rattle.words.proofs.Bits.{and-bit, or-bit, not-bit, some-bit}
+use Rattle.ground.proofs.Below.{all, all-at}
+use Rattle.ground.proofs.Bits.{and-bit, or-bit, not-bit, some-bit}
 use Rattle.keys.specs.Keys.{groupOf, withGroup, withInterrupt, debouncedRead, groupsOf, closedOf, newly, scannedGroup, raises, scannedKeys}
 use Rattle.keys.specs.KeyByKey.{table32, placeOf, keysOf, KeyScanned, KeyByKey}
 use Rattle.keys.specs.declared.Group.{Group}

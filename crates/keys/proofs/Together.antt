@@ -8,9 +8,9 @@ use mathlib.Core.Path.{_≡_, ap, ap₂, _∙_}
 use lib.Dec.{ltb}
 use lib.ListN.{getD}
 use lib.Bits.{bitAnd, and-le-l, and-mask, and-zero-r}
-use Rattle.words.specs.Choice.{if}
+use Rattle.ground.specs.Choice.{if}
 use Rattle.keys.specs.Keys.{groupsOf, closedOf, scannedGroup, raises, scannedKeys}
-use Rattle.keys.specs.Packed.{joined, byteAt, configured, packed, groupAt, unpacked, newlyPacked, scannedPacked, raisesPacked}
+use Rattle.keys.specs.PackedKeys.{joined, byteAt, configured, packed, groupAt, unpacked, newlyPacked, scannedPacked, raisesPacked}
 use Rattle.keys.specs.declared.Group.{Group}
 use Rattle.keys.specs.declared.Keys.{Keys}
 use Rattle.keys.specs.declared.Packed.{Packed}

@@ -6,7 +6,7 @@ use mathlib.Core.List.{List, [], _∷_}
 use mathlib.Core.Path.{_≡_}
 use lib.Dec.{eqb, ltb}
 use lib.ListN.{getD}
-use Rattle.words.specs.Choice.{bit, some}
+use Rattle.ground.specs.Choice.{bit, some}
 use Rattle.words.specs.declared.KeyGroup.{KeyGroup}
 use Rattle.words.specs.declared.KeyGroup.the-variants.{A, B, C, D}
 use Rattle.keys.specs.Keys.{groupOf, maskWritten, debouncedRead, groupsOf, closedOf, newly, scannedGroup, raises, scannedKeys}

@@ -1,3 +1,3 @@
 pub mod Keys
 pub mod KeyByKey
-pub mod Packed
+pub mod PackedKeys

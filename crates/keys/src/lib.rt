@@ -1,8 +1,8 @@
 // The keys of a MAX6954: four groups of eight, scanned into debounced registers with an interrupt.
 ghost use mathlib.Core.Path.{_≡_};
 ghost use Rattle.keys.specs.Keys.{groupOf, withGroup, groupsOf, maskWritten, debouncedRead, scannedKeys};
-ghost use Rattle.keys.specs.Packed.{joined, split, configured, packed, unpacked, newlyPacked, scannedPacked, raisesPacked};
-ghost use Rattle.words.specs.Choice.{if};
+ghost use Rattle.keys.specs.PackedKeys.{joined, split, configured, packed, unpacked, newlyPacked, scannedPacked, raisesPacked};
+ghost use Rattle.ground.specs.Choice.{if};
 ghost use Rattle.keys.specs.KeyByKey.{KeyByKey};
 use words::KeyGroup;
 

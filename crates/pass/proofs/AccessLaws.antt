@@ -12,18 +12,18 @@ use lib.Dec.{eqb, leb}
 use lib.ListN.{length, getD, take, drop, replicate, length-append, length-drop, length-map, List·getD-append, List·getD-map}
 use lib.Seq.{take-at, take-length, drop-length, ext-getD}
 use borrow.Author.Tests.{eqb-true, eq-eqb, ne-eqb, le-leb}
-use Rattle.words.specs.Choice.{if}
-use Rattle.words.specs.Lists.{tabulate}
-use Rattle.words.proofs.Lists.{length-tabulate, getD-tabulate, tabulate-ext}
+use Rattle.ground.specs.Choice.{if}
+use Rattle.ground.specs.Lists.{tabulate}
+use Rattle.ground.proofs.Lists.{length-tabulate, getD-tabulate, tabulate-ext}
 use Rattle.wire.specs.Bits.{bytesFor}
 use Rattle.wire.specs.Shift.{sizeNumber, fits, wordsAfter, roomAfter}
 use Rattle.wire.specs.Wire.{answer, shifted}
 use Rattle.wire.proofs.WholeLaws.{length-shifted}
 use Rattle.device.specs.PowerUp.{powerUp}
-use Rattle.device.specs.Words.{taken}
+use Rattle.device.specs.Taken.{taken}
 use Rattle.device.specs.declared.Device.{Device}
 use Rattle.calls.specs.Calls.{access}
-use Rattle.calls.specs.Numbers.{chainNumber, soundNumber, allSound}
+use Rattle.calls.specs.Refusals.{chainNumber, soundNumber, allSound}
 use Rattle.calls.specs.Served.{shiftWords, allTaken}
 use Rattle.calls.specs.Outcome.{number, after, reply, outcome}
 use Rattle.calls.proofs.Accepted.{first-zero}

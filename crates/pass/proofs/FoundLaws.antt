@@ -14,12 +14,12 @@ use lib.Dec.{eqb, leb, ltb}
 use lib.ListN.{length, getD, set, take}
 use lib.Seq.{take-length}
 use borrow.Author.Tests.{eqb-true, ne-eqb, leb-true, ltb-true}
-use Rattle.words.specs.Choice.{if}
-use Rattle.words.proofs.Truth.{passed, and-right}
+use Rattle.ground.specs.Choice.{if}
+use Rattle.ground.proofs.Truth.{passed, and-right}
 use Rattle.device.specs.PowerUp.{powerUp}
 use Rattle.device.specs.declared.Device.{Device}
 use Rattle.calls.specs.Calls.{Step, Question, give, ask}
-use Rattle.calls.specs.Numbers.{chainNumber, driverNumber, stepNumber, questionNumber, soundNumber, allSound, firstOf}
+use Rattle.calls.specs.Refusals.{chainNumber, driverNumber, stepNumber, questionNumber, soundNumber, allSound, firstOf}
 use Rattle.calls.specs.Served.{stepped, answerTo, refusedTo}
 use Rattle.calls.specs.Outcome.{number, after, reply, outcome}
 use Rattle.calls.proofs.Accepted.{first-zero, driver-there}

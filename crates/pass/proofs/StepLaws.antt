@@ -5,10 +5,10 @@ use native.Mathlib.Omega.{arith}
 use mathlib.Core.List.{List}
 use mathlib.Core.Path.{_≡_, ap, _∙_}
 use lib.ListN.{length, getD, set, length-append, length-drop}
-use Rattle.words.proofs.Lists.{length-tabulate, tabulate-none}
+use Rattle.ground.proofs.Lists.{length-tabulate, tabulate-none}
 use Rattle.wire.proofs.FillLaws.{tabulate-step, tabulate-rest}
 use Rattle.device.specs.PowerUp.{powerUp}
-use Rattle.device.specs.Words.{taken}
+use Rattle.device.specs.Taken.{taken}
 use Rattle.device.specs.declared.Device.{Device}
 use Rattle.pass.specs.OneByOne.{wordsTo, takenTo}
 

@@ -5,10 +5,10 @@ use mathlib.Core.Bool.{Bool, _&&_}
 use mathlib.Core.List.{List, [], _∷_}
 use lib.Dec.{eqb, leb}
 use lib.ListN.{length}
-use Rattle.words.specs.Choice.{if}
+use Rattle.ground.specs.Choice.{if}
 use Rattle.wire.specs.Shift.{sizeNumber}
 use Rattle.device.specs.declared.Device.{Device}
-use Rattle.calls.specs.Numbers.{chainNumber, driverNumber, soundNumber, allSound, firstOf}
+use Rattle.calls.specs.Refusals.{chainNumber, driverNumber, soundNumber, allSound, firstOf}
 
 -- the number of a call that names a driver, by its arguments; own is that of what the driver is given or asked
 abbrev pub byArguments : ℕ → ℕ → ℕ → ℕ

@@ -3,9 +3,9 @@
 use Prim.Native.Nat.{ℕ}
 use mathlib.Core.List.{List, _++_}
 use lib.ListN.{getD, drop}
-use Rattle.words.specs.Lists.{tabulate}
+use Rattle.ground.specs.Lists.{tabulate}
 use Rattle.device.specs.PowerUp.{powerUp}
-use Rattle.device.specs.Words.{taken}
+use Rattle.device.specs.Taken.{taken}
 use Rattle.device.specs.declared.Device.{Device}
 
 -- the shift words of the first k records, in front of words that are there

@@ -1,9 +1,9 @@
 // A call's number by value: by its arguments, and by a pass over the records of a chain.
 ghost use mathlib.Core.Path.{_≡_};
 ghost use lib.Dec.{eqb};
-ghost use Rattle.words.specs.Choice.{if};
+ghost use Rattle.ground.specs.Choice.{if};
 ghost use Rattle.calls.specs.Calls.{scan, levels as pinLevels, clocks as masterClocks, plane, brightness, shown, interrupt};
-ghost use Rattle.calls.specs.Numbers.{chainNumber, driverNumber, stepNumber, soundNumber, questionNumber};
+ghost use Rattle.calls.specs.Refusals.{chainNumber, driverNumber, stepNumber, soundNumber, questionNumber};
 ghost use Rattle.pass.specs.Widths.{eightBytes, twoBytes, greater, noWidths, widthsWith, fit};
 ghost use Rattle.pass.specs.Found.{byArguments, accessByArguments, toPass, toPassIn, inRoom, found};
 use device::Device;

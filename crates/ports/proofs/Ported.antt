@@ -8,10 +8,10 @@ use mathlib.Core.Path.{_≡_, refl, ap₂, _∙_}
 use lib.Bits.{bitAnd, bitOr, and-le-l, or-lt}
 use lib.Dec.{eqb, ltb}
 use borrow.Author.Tests.{ltb-true}
-use Rattle.words.specs.Choice.{if, bit, odd}
-use Rattle.words.proofs.Below.{all, all-at}
-use Rattle.words.proofs.Truth.{same}
-use Rattle.words.proofs.Bits.{and-bit, or-bit, not-bit, low-bit}
+use Rattle.ground.specs.Choice.{if, bit, odd}
+use Rattle.ground.proofs.Below.{all, all-at}
+use Rattle.ground.proofs.Truth.{same}
+use Rattle.ground.proofs.Bits.{and-bit, or-bit, not-bit, low-bit}
 use Rattle.keys.specs.Keys.{groupsOf}
 use Rattle.ports.specs.Ports.{freePorts, levels, irqLevel}
 use Rattle.ports.specs.PortByPort.{portLevel, PortByPort}

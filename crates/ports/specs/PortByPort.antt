@@ -4,7 +4,7 @@ use Prim.Native.Nat.{ℕ, _<_}
 use mathlib.Core.Bool.{Bool, false, not, _&&_}
 use mathlib.Core.Path.{_≡_}
 use lib.Dec.{eqb, ltb}
-use Rattle.words.specs.Choice.{if, bit, odd}
+use Rattle.ground.specs.Choice.{if, bit, odd}
 use Rattle.keys.specs.Keys.{groupsOf}
 use Rattle.ports.specs.Ports.{portData}
 

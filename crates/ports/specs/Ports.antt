@@ -6,7 +6,7 @@ use mathlib.Core.List.{[], _∷_}
 use lib.Bits.{bitAnd, bitOr}
 use lib.Dec.{eqb}
 use lib.ListN.{getD}
-use Rattle.words.specs.Choice.{if}
+use Rattle.ground.specs.Choice.{if}
 use Rattle.keys.specs.Keys.{groupsOf}
 
 -- the ports, as bits, that stay GPIO with 0, 1, 2 or 3 groups: groups take P0 first, and P4 is the interrupt

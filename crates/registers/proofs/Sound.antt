@@ -4,10 +4,10 @@ use Prim.Native.Nat.{ℕ}
 use mathlib.Core.Bool.{Bool, true, _&&_}
 use mathlib.Core.Path.{_≡_, refl}
 use lib.Dec.{ltb}
-use Rattle.words.specs.Choice.{bit}
+use Rattle.ground.specs.Choice.{bit}
 use Rattle.words.specs.declared.Register.{Register}
 use Rattle.words.specs.declared.Register.the-variants.{NoOp, Control, Configuration, KeyMask, KeyDebounced, KeyPressed, Intensity, Digit, BothPlanes, Unlisted}
-use Rattle.words.proofs.Truth.{and-left, and-right, if-small}
+use Rattle.ground.proofs.Truth.{and-left, and-right, if-small}
 use Rattle.keys.specs.Keys.{soundKeys, maskWritten, debouncedRead}
 use Rattle.keys.proofs.Sound.{masked-sound, read-sound}
 use Rattle.controls.specs.Controls.{controlWritten, soundControls}

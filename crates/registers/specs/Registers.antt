@@ -2,7 +2,7 @@
 -- Assumes nothing.
 use Prim.Native.Nat.{ℕ}
 use lib.ListN.{getD, set}
-use Rattle.words.specs.Choice.{if, bit, odd}
+use Rattle.ground.specs.Choice.{if, bit, odd}
 use Rattle.words.specs.declared.Plane.{Plane}
 use Rattle.words.specs.declared.Register.{Register}
 use Rattle.words.specs.declared.Register.the-variants.{NoOp, Control, Configuration, KeyMask, KeyDebounced, KeyPressed, Intensity, Digit, BothPlanes, Unlisted}

@@ -15,17 +15,17 @@ use lib.Dec.{eqb}
 use lib.ListN.{length, getD, take, drop, set, replicate, take-append-drop, length-append, List·getD-append}
 use lib.Seq.{length-take-le, take-all, set-append-left, drop-length}
 use borrow.Author.Tests.{ne-eqb}
-use Rattle.words.specs.Choice.{if}
-use Rattle.words.specs.Lists.{tabulate}
-use Rattle.words.proofs.Lists.{tabulate-ext}
+use Rattle.ground.specs.Choice.{if}
+use Rattle.ground.specs.Lists.{tabulate}
+use Rattle.ground.proofs.Lists.{tabulate-ext}
 use Rattle.wire.specs.Shift.{sizeNumber, wordsAfter, roomAfter}
 use Rattle.device.specs.PowerUp.{powerUp}
-use Rattle.device.specs.Words.{taken}
+use Rattle.device.specs.Taken.{taken}
 use Rattle.device.specs.declared.Device.{Device}
 use Rattle.display.specs.Pins.{segmentsOf}
 use Rattle.display.specs.declared.SegmentAnswer.{SegmentAnswer}
 use Rattle.calls.specs.Calls.{Step, Call, access, give, ask, segments}
-use Rattle.calls.specs.Numbers.{chainNumber, driverNumber, stepNumber, questionNumber, soundNumber, allSound}
+use Rattle.calls.specs.Refusals.{chainNumber, driverNumber, stepNumber, questionNumber, soundNumber, allSound}
 use Rattle.calls.specs.Served.{stepped, refusedBack}
 use Rattle.calls.specs.Outcome.{number, after, reply, Outcome}
 use Rattle.calls.proofs.Accepted.{after-zero, reply-zero}

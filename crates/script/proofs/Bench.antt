@@ -1,11 +1,11 @@
 -- The document's script, the first line's cases and the other lines, by computation.
 -- Assumes nothing.
 use mathlib.Core.Path.{refl}
-use Rattle.words.specs.Lists.{tabulate}
+use Rattle.ground.specs.Lists.{tabulate}
 use Rattle.wire.specs.Bits.{bits, value, unpack, byteAt, pack, wordAt}
 use Rattle.wire.specs.Wire.{string, words, wire, answer, shifted}
-use Rattle.device.specs.Words.{taken}
-use Rattle.calls.specs.Numbers.{allSound}
+use Rattle.device.specs.Taken.{taken}
+use Rattle.calls.specs.Refusals.{allSound}
 use Rattle.calls.specs.Outcome.{number, after, reply}
 use Rattle.script.specs.Lines.{each}
 use Rattle.script.specs.Format.{itemsAfter}

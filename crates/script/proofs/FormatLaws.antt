@@ -8,8 +8,8 @@ use mathlib.Core.Path.{_≡_, refl, sym, ap, _∙_}
 use lib.Dec.{eqb, leb}
 use lib.ListN.{length, drop}
 use borrow.Author.Tests.{leb-true, eqb-true, ne-eqb}
-use Rattle.words.specs.Choice.{if}
-use Rattle.words.proofs.Truth.{and-left, and-right}
+use Rattle.ground.specs.Choice.{if}
+use Rattle.ground.proofs.Truth.{and-left, and-right}
 use Rattle.script.specs.Format.{byte, kindOf, bodyLength, sizeOf, lengthFits, wellFormed, callOf, Item, itemAt, itemsAfter, items}
 
 -- bytes that are passed over

@@ -8,7 +8,7 @@ use mathlib.Core.Path.{_≡_, refl, sym, _∙_}
 use lib.ListN.{length, take, drop, length-drop, length-replicate, drop-of-length-le}
 use lib.Seq.{length-take-le, drop-drop}
 use borrow.Author.Tests.{eq-eqb, ne-eqb}
-use Rattle.words.specs.Choice.{if}
+use Rattle.ground.specs.Choice.{if}
 use Rattle.device.specs.declared.Device.{Device}
 use Rattle.calls.specs.Outcome.{after}
 use Rattle.row.specs.Row.{fresh, records}
@@ -16,7 +16,7 @@ use Rattle.row.specs.declared.Row.{Row}
 use Rattle.script.specs.Lines.{refusalLine}
 use Rattle.script.specs.Format.{kindOf, bodyLength, sizeOf, bodyOf, lengthFits, wellFormed, callOf, chain, malformed, itemsAfter, items}
 use Rattle.script.specs.Script.{freshChain, callLine, runLines}
-use Rattle.script.specs.Steps.{lineOn, Written, Obeyed}
+use Rattle.script.specs.Progress.{lineOn, Written, Obeyed}
 use Rattle.script.specs.declared.Progress.{Progress}
 use Rattle.script.proofs.RoomLaws.{written-length, Left, all-written, part-written}
 use Rattle.script.proofs.FormatLaws.{items-first, size-zero, size-says, fits}

@@ -9,7 +9,7 @@ use mathlib.Core.Path.{_≡_, refl, _∙_}
 use lib.ListN.{length, set, drop, getD, length-append}
 use lib.Seq.{sets, length-sets, sets-eq, drop-cons}
 use Rattle.script.specs.Lines.{each, hexByte, answerLine}
-use Rattle.script.specs.Steps.{Written}
+use Rattle.script.specs.Progress.{Written}
 
 -- a text in two parts is its first part, and then its second after it
 pub sets-append : (p q o : List ℕ) (at : ℕ) → sets o at (p ++ q) ≡ sets (sets o at p) (at + length p) q

@@ -10,7 +10,7 @@ use lib.Dec.{eqb}
 use lib.ListN.{length, take, drop, replicate, length-append, length-take, length-drop, take-append-drop}
 use lib.Seq.{length-take-le, take-all, take-at}
 use borrow.Author.Tests.{ne-eqb}
-use Rattle.words.specs.Choice.{if}
+use Rattle.ground.specs.Choice.{if}
 use Rattle.wire.specs.Bits.{bytesFor}
 use Rattle.wire.proofs.SizeLaws.{served as sizes-fit}
 use Rattle.device.specs.PowerUp.{powerUp}
@@ -25,7 +25,7 @@ use Rattle.row.specs.declared.Row.{Row}
 use Rattle.row.specs.declared.Done.{Done}
 use Rattle.script.specs.Lines.{each, hexByte, pinText, answerLine, showLine, refusalLine, lineFor}
 use Rattle.script.specs.Script.{freshChain}
-use Rattle.script.specs.Steps.{Written, Given, Obeyed}
+use Rattle.script.specs.Progress.{Written, Given, Obeyed}
 use Rattle.script.specs.declared.Progress.{Progress}
 use Rattle.script.proofs.RoomLaws.{length-each}
 

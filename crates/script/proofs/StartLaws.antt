@@ -8,12 +8,12 @@ use mathlib.Core.Path.{_≡_, refl}
 use lib.Dec.{ltb}
 use lib.ListN.{length, drop}
 use borrow.Author.Tests.{eq-eqb, ne-eqb, lt-ltb, le-ltb, ltb-false}
-use Rattle.words.specs.Choice.{if}
+use Rattle.ground.specs.Choice.{if}
 use Rattle.script.specs.Lines.{digit, chainLine, refusalLine}
 use Rattle.script.specs.Format.{byte, kindOf, bodyLength, sizeOf, wellFormed, itemsAfter, items}
 use Rattle.script.specs.Script.{freshChain, runLines, assumedChain, itemsPrinted, longest, printed}
 use Rattle.script.specs.Run.{roomFor, ranOf, outAfter}
-use Rattle.script.specs.Steps.{Written, Started}
+use Rattle.script.specs.Progress.{Written, Started}
 use Rattle.script.specs.declared.Ran.{Ran}
 use Rattle.script.specs.declared.Start.{Start}
 use Rattle.script.proofs.RoomLaws.{written-length, whole-written}

@@ -3,5 +3,5 @@ pub mod Format
 pub mod Script
 pub mod Run
 pub mod Limits
-pub mod Steps
+pub mod Progress
 pub mod Examples

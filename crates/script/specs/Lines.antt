@@ -5,7 +5,7 @@ use Prim.Native.Nat.{ℕ, _+_, _/_, _%_}
 use mathlib.Core.List.{List, [], _∷_, _++_}
 use lib.Dec.{eqb, ltb}
 use lib.ListN.{take}
-use Rattle.words.specs.Choice.{if}
+use Rattle.ground.specs.Choice.{if}
 use Rattle.wire.specs.Bits.{bytesFor}
 use Rattle.display.specs.Pins.{pinNumber}
 use Rattle.display.specs.declared.Pin.the-variants.{Cathode, Lit, Unlit}

@@ -4,11 +4,11 @@ use Prim.Native.Nat.{ℕ}
 use mathlib.Core.List.{List, [], _∷_, _++_}
 use lib.Dec.{eqb, ltb}
 use lib.ListN.{length, replicate}
-use Rattle.words.specs.Choice.{if}
+use Rattle.ground.specs.Choice.{if}
 use Rattle.device.specs.PowerUp.{powerUp}
 use Rattle.device.specs.declared.Device.{Device}
 use Rattle.calls.specs.Calls.{Call}
-use Rattle.calls.specs.Numbers.{chainNumber}
+use Rattle.calls.specs.Refusals.{chainNumber}
 use Rattle.calls.specs.Outcome.{number, after, reply}
 use Rattle.script.specs.Lines.{chainLine, refusalLine, lineFor}
 use Rattle.script.specs.Format.{Item, chain, call, malformed, items}

@@ -3,7 +3,7 @@ use crate::table::TEST_TABLE;
 ghost use Prim.Native.Nat.{_+_, _<_};
 ghost use mathlib.Core.Path.{_≡_};
 ghost use lib.ListN.{length};
-ghost use Rattle.words.specs.Choice.{if};
+ghost use Rattle.ground.specs.Choice.{if};
 ghost use Rattle.script.specs.Format.{byte as byteOf, word as wordOf, lengthFits, sizeOf, wellFormed, testTable};
 
 // Byte k of some bytes, 0 past the end.

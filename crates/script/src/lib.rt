@@ -13,7 +13,7 @@ ghost use Rattle.script.specs.Script.{freshChain, runLines, itemsPrinted
 ghost use Rattle.script.specs.Run.{roomFor, ranOf, outAfter};
 ghost use Rattle.script.specs.Limits.{Limits};
 ghost use Rattle.script.specs.Examples.{Examples};
-ghost use Rattle.script.specs.Steps.{Written, Given, Obeyed, Started};
+ghost use Rattle.script.specs.Progress.{Written, Given, Obeyed, Started};
 use format::byte;
 use format::record_size;
 use format::test_table;

@@ -9,8 +9,8 @@ use lib.Bits.{bitAnd, bitOr, and-shr, and-mod, or-shr, or-mod}
 use lib.Dec.{eqb}
 use lib.Pow.{pow-add}
 use borrow.Author.Tests.{eqb-true}
-use Rattle.words.proofs.Below.{all, all-at}
-use Rattle.wiring.specs.Packed.{byteOf, packed}
+use Rattle.ground.proofs.Below.{all, all-at}
+use Rattle.wiring.specs.PackedRows.{byteOf, packed}
 
 -- byte 0, and byte i + 1 as byte i of what stands above it
 pub byte-first : (w : ℕ) → byteOf w 0 ≡ w % 256

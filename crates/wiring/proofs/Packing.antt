@@ -5,9 +5,9 @@ use mathlib.Core.Bool.{Bool, true, _&&_}
 use mathlib.Core.Path.{_≡_, refl}
 use lib.Dec.{eqb}
 use borrow.Author.Tests.{eqb-true, le-ltb}
-use Rattle.words.proofs.Below.{all, all-at}
-use Rattle.words.proofs.Truth.{and-left, and-right}
-use Rattle.wiring.specs.Packed.{packedPins, packedRow, sixPins, firstPins}
+use Rattle.ground.proofs.Below.{all, all-at}
+use Rattle.ground.proofs.Truth.{and-left, and-right}
+use Rattle.wiring.specs.PackedRows.{packedPins, packedRow, sixPins, firstPins}
 use Rattle.wiring.specs.declared.Display.{Display}
 use Rattle.wiring.specs.declared.Display.the-variants.{Sixteen, Fourteen, SevenPair}
 use Rattle.wiring.specs.declared.PackedPins.{PackedPins}

@@ -7,10 +7,10 @@ use mathlib.Core.Path.{_≡_, refl}
 use lib.Dec.{eqb}
 use lib.ListN.{getD, set}
 use borrow.Author.Tests.{eqb-true, lt-ltb, le-ltb}
-use Rattle.words.specs.Lists.{tabulate}
-use Rattle.words.proofs.Below.{all, all-at}
-use Rattle.words.proofs.Lists.{tabulate-ext}
-use Rattle.words.proofs.Truth.{and-left, and-right}
+use Rattle.ground.specs.Lists.{tabulate}
+use Rattle.ground.proofs.Below.{all, all-at}
+use Rattle.ground.proofs.Lists.{tabulate-ext}
+use Rattle.ground.proofs.Truth.{and-left, and-right}
 use Rattle.wiring.specs.Wiring.{none, glyph, point, sixteen, fourteen, cathode, notDriven, listOf, partner, ruleAt, wireAt}
 use Rattle.wiring.specs.Table.{segmentEntry, wireEntry, displayNumber, table, entryAt, others, WiringTable}
 use Rattle.wiring.specs.declared.Display.{Display}

@@ -6,8 +6,8 @@ use mathlib.Core.List.{List, [], _∷_, _++_}
 use mathlib.Core.Path.{_≡_}
 use lib.Dec.{eqb}
 use lib.ListN.{getD, set}
-use Rattle.words.specs.Choice.{if}
-use Rattle.words.specs.Lists.{tabulate}
+use Rattle.ground.specs.Choice.{if}
+use Rattle.ground.specs.Lists.{tabulate}
 use Rattle.wiring.specs.Wiring.{Segment, none, glyph, point, first, second, sixteen, fourteen, Wire, cathode, notDriven, carries, listOf, partner, ruleAt}
 use Rattle.wiring.specs.declared.Display.{Display}
 use Rattle.wiring.specs.declared.Display.the-variants.{Sixteen, Fourteen, SevenPair}

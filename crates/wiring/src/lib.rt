@@ -5,10 +5,10 @@ mod table;
 ghost use mathlib.Core.Path.{_≡_};
 ghost use Prim.Native.Nat.{_+_, _<_, _≤_};
 ghost use lib.ListN.{getD};
-ghost use Rattle.words.specs.Lists.{tabulate};
+ghost use Rattle.ground.specs.Lists.{tabulate};
 ghost use Rattle.wiring.specs.Wiring.{wireAt};
 ghost use Rattle.wiring.specs.Table.{displayNumber, wireEntry, table, WiringTable};
-ghost use Rattle.wiring.specs.Packed.{sixPins, packedPins, parted, firstPins, packedRow};
+ghost use Rattle.wiring.specs.PackedRows.{sixPins, packedPins, parted, firstPins, packedRow};
 
 // What a cathode drives: a 16-segment digit, a 14-segment digit or two 7-segment digits.
 pub enum Display {

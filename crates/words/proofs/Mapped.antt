@@ -3,8 +3,8 @@
 use mathlib.Core.List.{map}
 use mathlib.Core.Path.{_≡_, refl}
 use Prim.Native.Nat.{ℕ}
-use Rattle.words.specs.Lists.{tabulate}
-use Rattle.words.specs.Words.{writtenAt, readAt}
+use Rattle.ground.specs.Lists.{tabulate}
+use Rattle.words.specs.Addresses.{writtenAt, readAt}
 use Rattle.words.specs.Table6.{table6, unlisted, Table6}
 use Rattle.words.specs.declared.Register.{Register}
 use Rattle.words.specs.declared.Register.the-variants.{Unlisted}

@@ -1,4 +1,2 @@
-pub mod Choice
-pub mod Lists
-pub mod Words
+pub mod Addresses
 pub mod Table6

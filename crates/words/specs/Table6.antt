@@ -3,8 +3,8 @@
 use Prim.Native.Nat.{ℕ, _+_}
 use mathlib.Core.List.{List, [], _∷_, _++_, map}
 use mathlib.Core.Path.{_≡_}
-use Rattle.words.specs.Lists.{tabulate}
-use Rattle.words.specs.Words.{writtenAt, readAt}
+use Rattle.ground.specs.Lists.{tabulate}
+use Rattle.words.specs.Addresses.{writtenAt, readAt}
 use Rattle.words.specs.declared.Plane.the-variants.{P0, P1}
 use Rattle.words.specs.declared.KeyGroup.the-variants.{A, B, C, D}
 use Rattle.words.specs.declared.ControlRegister.the-variants.{DecodeMode, GlobalIntensity, ScanLimit, GpioData, PortConfiguration, DisplayTest, DigitType}

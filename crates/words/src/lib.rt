@@ -1,6 +1,6 @@
 // The registers of a MAX6954, and the 16-bit words that write and read them (Table 6).
 ghost use mathlib.Core.Path.{_≡_};
-ghost use Rattle.words.specs.Words.{highRegister, alikeAt, writtenAt, readAt, wordOf};
+ghost use Rattle.words.specs.Addresses.{highRegister, alikeAt, writtenAt, readAt, wordOf};
 ghost use Rattle.words.specs.Table6.{Table6};
 
 pub enum Plane {

@@ -1,5 +1,5 @@
 -- `blink::phase` meets its contract. Assumes nothing.
-use Rattle.words.proofs.Tests.{tests}
+use Rattle.ground.proofs.Tests.{tests}
 use Rattle.blink.proofs.phase.Statement.{statement}
 use Rattle.blink.proofs.phase.Tie as tie
 

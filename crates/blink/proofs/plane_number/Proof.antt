@@ -1,5 +1,5 @@
 -- `blink::plane_number` meets its contract. Assumes nothing.
-use Rattle.words.proofs.Tests.{tests}
+use Rattle.ground.proofs.Tests.{tests}
 use Rattle.blink.proofs.plane_number.Statement.{statement}
 use Rattle.blink.proofs.plane_number.Tie as tie
 

@@ -1,5 +1,5 @@
 -- `brightness::digit_sixteenths` meets its contract. Assumes nothing.
-use Rattle.words.proofs.Tests.{tests}
+use Rattle.ground.proofs.Tests.{tests}
 use borrow.Author.Needs.{needs}
 use Rattle.brightness.proofs.digit_sixteenths.Statement.{statement}
 use Rattle.brightness.proofs.digit_sixteenths.Tie as tie

@@ -1,5 +1,5 @@
 -- `brightness::nibble` meets its contract. Assumes nothing.
-use Rattle.words.proofs.Tests.{tests}
+use Rattle.ground.proofs.Tests.{tests}
 use borrow.Author.Needs.{needs}
 use Rattle.brightness.proofs.nibble.Statement.{statement}
 use Rattle.brightness.proofs.nibble.Tie as tie

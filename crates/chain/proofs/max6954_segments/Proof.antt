@@ -3,7 +3,7 @@
 use mathlib.Core.Path.{_≡_}
 use mathlib.Core.List.{[], _∷_}
 use mir.Syntax.{w16}
-use Rattle.words.specs.Lists.{tabulate}
+use Rattle.ground.specs.Lists.{tabulate}
 use Rattle.display.specs.Pins.{pinNumber, segmentsOf}
 use Rattle.display.specs.declared.Pin.the-variants.{NotDriven}
 use Rattle.calls.specs.Calls.{segments}

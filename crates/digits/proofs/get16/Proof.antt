@@ -1,5 +1,5 @@
 -- `digits::get16` meets its contract. Assumes nothing.
-use Rattle.words.proofs.Arrays.{past}
+use Rattle.ground.proofs.Arrays.{past}
 use borrow.Author.Needs.{needs}
 use Rattle.digits.proofs.get16.Statement.{statement}
 use Rattle.digits.proofs.get16.Tie as tie

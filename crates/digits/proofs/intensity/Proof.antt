@@ -1,5 +1,5 @@
 -- `digits::intensity` meets its contract. Assumes nothing.
-use Rattle.words.proofs.Arrays.{past}
+use Rattle.ground.proofs.Arrays.{past}
 use borrow.Author.Needs.{needs}
 use Rattle.digits.proofs.intensity.Statement.{statement}
 use Rattle.digits.proofs.intensity.Tie as tie

@@ -1,5 +1,5 @@
 -- `digits::intensity_written` meets its contract. Assumes nothing.
-use Rattle.words.proofs.Arrays.{kept}
+use Rattle.ground.proofs.Arrays.{kept}
 use borrow.Author.Needs.{needs}
 use Rattle.digits.proofs.intensity_written.Statement.{statement}
 use Rattle.digits.proofs.intensity_written.Tie as tie

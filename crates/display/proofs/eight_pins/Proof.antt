@@ -1,5 +1,5 @@
 -- `display::eight_pins` meets its contract. Assumes nothing.
-use Rattle.display.specs.Packed.{eightPins}
+use Rattle.display.specs.PackedPins.{eightPins}
 use borrow.Author.Needs.{needs}
 use Rattle.display.proofs.eight_pins.Statement.{statement}
 use Rattle.display.proofs.eight_pins.Tie as tie

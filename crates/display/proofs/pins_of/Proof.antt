@@ -5,10 +5,10 @@ use mathlib.Core.List.{_++_, append-nil}
 use mathlib.Core.Path.{_≡_, refl, _∙_}
 use lib.ListN.{length, drop, length-set}
 use borrow.Author.Needs.{needs}
-use Rattle.words.specs.Lists.{tabulate}
-use Rattle.words.proofs.Lists.{tabulate-none, tabulate-more}
-use Rattle.wiring.specs.Packed.{byteOf}
-use Rattle.display.specs.Packed.{wordAt}
+use Rattle.ground.specs.Lists.{tabulate}
+use Rattle.ground.proofs.Lists.{tabulate-none, tabulate-more}
+use Rattle.wiring.specs.PackedRows.{byteOf}
+use Rattle.display.specs.PackedPins.{wordAt}
 use Rattle.display.proofs.pins_of.Statement.{statement}
 use Rattle.display.proofs.pins_of.Tie as tie
 

@@ -1,7 +1,7 @@
 -- `display::pins_shown` meets its contract. Assumes nothing.
 use mathlib.Core.Path.{sym, _∙_}
 use native.Mathlib.Omega.{arith}
-use Rattle.words.specs.Lists.{tabulate}
+use Rattle.ground.specs.Lists.{tabulate}
 use Rattle.display.proofs.Wires.{pins-dark, pins-lit}
 use borrow.Author.Needs.{needs}
 use Rattle.display.proofs.pins_shown.Statement.{statement}

@@ -1,5 +1,5 @@
 -- `display::segments` meets its contract. Assumes nothing.
-use Rattle.words.specs.Lists.{tabulate}
+use Rattle.ground.specs.Lists.{tabulate}
 use borrow.Author.Tests.{ne-eqb}
 use mathlib.Core.Path.{sym, _∙_}
 use Rattle.display.proofs.Wires.{cathode-lt}

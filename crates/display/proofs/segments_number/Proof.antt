@@ -1,5 +1,5 @@
 -- `display::segments_number` meets its contract. Assumes nothing.
-use Rattle.words.proofs.Tests.{tests}
+use Rattle.ground.proofs.Tests.{tests}
 use Rattle.display.proofs.segments_number.Statement.{statement}
 use Rattle.display.proofs.segments_number.Tie as tie
 

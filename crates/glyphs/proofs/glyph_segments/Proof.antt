@@ -1,6 +1,6 @@
 -- `glyphs::glyph_segments` meets its contract. Assumes nothing.
 use mathlib.Core.Path.{refl}
-use Rattle.words.proofs.Arrays.{past}
+use Rattle.ground.proofs.Arrays.{past}
 use native.Mathlib.Omega.{arith}
 use Prim.Native.Nat.{_%_}
 use borrow.Author.Needs.{needs}

@@ -1,5 +1,5 @@
 -- `pass::brightness_number` meets its contract. Assumes nothing.
-use Rattle.words.proofs.Tests.{tests}
+use Rattle.ground.proofs.Tests.{tests}
 use Rattle.pass.proofs.brightness_number.Statement.{statement}
 use Rattle.pass.proofs.brightness_number.Tie as tie
 

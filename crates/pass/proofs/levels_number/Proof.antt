@@ -1,5 +1,5 @@
 -- `pass::levels_number` meets its contract. Assumes nothing.
-use Rattle.words.proofs.Tests.{tests}
+use Rattle.ground.proofs.Tests.{tests}
 use Rattle.pass.proofs.levels_number.Statement.{statement}
 use Rattle.pass.proofs.levels_number.Tie as tie
 

@@ -1,7 +1,7 @@
 -- `ports::free_ports` meets its contract. Assumes nothing.
 use mathlib.Core.Path.{refl}
 use mathlib.Core.List.{[], _∷_}
-use Rattle.words.proofs.Arrays.{past}
+use Rattle.ground.proofs.Arrays.{past}
 use borrow.Author.Needs.{needs}
 use Rattle.ports.proofs.free_ports.Statement.{statement}
 use Rattle.ports.proofs.free_ports.Tie as tie

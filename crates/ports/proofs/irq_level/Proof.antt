@@ -1,5 +1,5 @@
 -- `ports::irq_level` meets its contract. Assumes nothing.
-use Rattle.words.proofs.Tests.{tests}
+use Rattle.ground.proofs.Tests.{tests}
 use borrow.Author.Needs.{needs}
 use Rattle.ports.proofs.irq_level.Statement.{statement}
 use Rattle.ports.proofs.irq_level.Tie as tie

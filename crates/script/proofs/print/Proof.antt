@@ -4,7 +4,7 @@ use native.Mathlib.Omega.{arith}
 use lib.Dec.{ltb}
 use borrow.Author.Tests.{ltb-true}
 use borrow.Author.Needs.{needs}
-use Rattle.words.proofs.Truth.{and-right}
+use Rattle.ground.proofs.Truth.{and-right}
 use Rattle.script.proofs.RoomLaws.{written-length, both-written}
 use Rattle.script.proofs.StartLaws.{chain-short, prints-lines, prints-refusal}
 use Rattle.script.proofs.print.Statement.{statement}

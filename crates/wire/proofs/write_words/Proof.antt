@@ -4,8 +4,8 @@ use native.Mathlib.Omega.{arith}
 use mathlib.Core.List.{_++_}
 use mathlib.Core.Path.{_≡_, refl, _∙_}
 use lib.ListN.{length, drop, length-set}
-use Rattle.words.specs.Lists.{tabulate}
-use Rattle.words.proofs.Lists.{tabulate-none, tabulate-more}
+use Rattle.ground.specs.Lists.{tabulate}
+use Rattle.ground.proofs.Lists.{tabulate-none, tabulate-more}
 use Rattle.wire.specs.Bits.{unpack, wordAt}
 use Rattle.wire.specs.Wire.{words}
 use Rattle.wire.proofs.BitLaws.{word-drop}

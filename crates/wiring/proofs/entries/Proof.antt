@@ -5,8 +5,8 @@ use mathlib.Core.List.{_++_, append-nil}
 use mathlib.Core.Path.{_≡_, refl, _∙_}
 use lib.ListN.{length, drop, getD, length-set}
 use borrow.Author.Needs.{needs}
-use Rattle.words.specs.Lists.{tabulate}
-use Rattle.words.proofs.Lists.{tabulate-none, tabulate-more}
+use Rattle.ground.specs.Lists.{tabulate}
+use Rattle.ground.proofs.Lists.{tabulate-none, tabulate-more}
 use Rattle.wiring.proofs.entries.Statement.{statement}
 use Rattle.wiring.proofs.entries.Tie as tie
 

@@ -1,6 +1,6 @@
 -- `wiring::wires` meets its contract. Assumes nothing.
 use mathlib.Core.Path.{_∙_}
-use Rattle.words.specs.Lists.{tabulate}
+use Rattle.ground.specs.Lists.{tabulate}
 use Rattle.wiring.proofs.Wired.{wired-row, no-row}
 use borrow.Author.Needs.{needs}
 use Rattle.wiring.proofs.wires.Statement.{statement}

@@ -1,7 +1,7 @@
 -- `words::alike_at` meets its contract. Assumes nothing.
 use native.Mathlib.Omega.{arith}
 use borrow.Author.Tests.{le-ltb}
-use Rattle.words.proofs.Arms.{past-arms}
+use Rattle.ground.proofs.Arms.{past-arms}
 use borrow.Author.Needs.{needs}
 use Rattle.words.proofs.alike_at.Statement.{statement}
 use Rattle.words.proofs.alike_at.Tie as tie

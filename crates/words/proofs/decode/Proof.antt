@@ -1,5 +1,5 @@
 -- `words::decode` meets its contract. Assumes nothing.
-use Rattle.words.proofs.Tests.{tests}
+use Rattle.ground.proofs.Tests.{tests}
 use borrow.Author.Needs.{needs}
 use Rattle.words.proofs.decode.Statement.{statement}
 use Rattle.words.proofs.decode.Tie as tie

@@ -1,5 +1,5 @@
 -- `words::written_at` meets its contract. Assumes nothing.
-use Rattle.words.proofs.Arms.{not-second}
+use Rattle.ground.proofs.Arms.{not-second}
 use borrow.Author.Needs.{needs}
 use Rattle.words.proofs.written_at.Statement.{statement}
 use Rattle.words.proofs.written_at.Tie as tie

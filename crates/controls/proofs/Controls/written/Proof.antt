@@ -1,5 +1,5 @@
 -- `controls::Controls::written` meets its contract. Assumes nothing.
-use Rattle.words.proofs.Tests.{tests}
+use Rattle.ground.proofs.Tests.{tests}
 use borrow.Author.Needs.{needs}
 use Rattle.controls.proofs.Controls.written.Statement.{statement}
 use Rattle.controls.proofs.Controls.written.Tie as tie

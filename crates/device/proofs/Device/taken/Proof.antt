@@ -1,5 +1,5 @@
 -- `device::Device::taken` meets its contract. Assumes nothing.
-use Rattle.device.specs.Words.{taken}
+use Rattle.device.specs.Taken.{taken}
 use borrow.Author.Needs.{needs}
 use Rattle.device.proofs.Device.taken.Statement.{statement}
 use Rattle.device.proofs.Device.taken.Tie as tie

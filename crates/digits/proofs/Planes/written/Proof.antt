@@ -1,5 +1,5 @@
 -- `digits::Planes::written` meets its contract. Assumes nothing.
-use Rattle.words.proofs.Tests.{tests}
+use Rattle.ground.proofs.Tests.{tests}
 use borrow.Author.Needs.{needs}
 use Rattle.digits.proofs.Planes.written.Statement.{statement}
 use Rattle.digits.proofs.Planes.written.Tie as tie

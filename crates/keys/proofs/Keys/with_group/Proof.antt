@@ -1,5 +1,5 @@
 -- `keys::Keys::with_group` meets its contract. Assumes nothing.
-use Rattle.words.proofs.Tests.{tests}
+use Rattle.ground.proofs.Tests.{tests}
 use borrow.Author.Needs.{needs}
 use Rattle.keys.proofs.Keys.with_group.Statement.{statement}
 use Rattle.keys.proofs.Keys.with_group.Tie as tie

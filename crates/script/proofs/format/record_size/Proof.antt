@@ -1,6 +1,6 @@
 -- `script::format::record_size` meets its contract. Assumes nothing.
 use borrow.Author.Needs.{needs}
-use Rattle.words.proofs.Tests.{tests}
+use Rattle.ground.proofs.Tests.{tests}
 use Rattle.script.proofs.format.record_size.Statement.{statement}
 use Rattle.script.proofs.format.record_size.Tie as tie
 

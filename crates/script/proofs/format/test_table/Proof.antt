@@ -1,6 +1,6 @@
 -- `script::format::test_table` meets its contract. Assumes nothing.
 use mathlib.Core.Path.{refl}
-use Rattle.words.specs.Lists.{tabulate}
+use Rattle.ground.specs.Lists.{tabulate}
 use Rattle.script.proofs.format.test_table.Statement.{statement}
 use Rattle.script.proofs.format.test_table.Tie as tie
 

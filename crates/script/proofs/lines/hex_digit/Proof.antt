@@ -1,6 +1,6 @@
 -- `script::lines::hex_digit` meets its contract. Assumes nothing.
 use borrow.Author.Needs.{needs}
-use Rattle.words.proofs.Tests.{tests}
+use Rattle.ground.proofs.Tests.{tests}
 use Rattle.script.proofs.lines.hex_digit.Statement.{statement}
 use Rattle.script.proofs.lines.hex_digit.Tie as tie
 

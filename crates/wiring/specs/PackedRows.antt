@@ -5,7 +5,7 @@ use mathlib.Core.Bool.{_&&_}
 use lib.Bits.{bitAnd, bitOr}
 use lib.Dec.{eqb, ltb}
 use lib.ListN.{getD}
-use Rattle.words.specs.Choice.{if}
+use Rattle.ground.specs.Choice.{if}
 use Rattle.wiring.specs.Wiring.{isSegment, Wire, none, cathode, notDriven, carries, listOf, wireAt}
 use Rattle.wiring.specs.Table.{wireEntry}
 use Rattle.wiring.specs.declared.Display.{Display}

@@ -4,9 +4,9 @@ use Prim.Native.Nat.{ℕ, _+_, _*_, _/_, _%_, _^_}
 use mathlib.Core.List.{List}
 use lib.Bits.{bitAnd, bitOr}
 use lib.Dec.{ltb}
-use Rattle.words.specs.Choice.{if}
-use Rattle.words.specs.Lists.{tabulate}
-use Rattle.wiring.specs.Packed.{byteOf}
+use Rattle.ground.specs.Choice.{if}
+use Rattle.ground.specs.Lists.{tabulate}
+use Rattle.wiring.specs.PackedRows.{byteOf}
 use Rattle.wiring.specs.declared.PackedPins.{PackedPins}
 use Rattle.wiring.specs.declared.PackedRow.{PackedRow}
 

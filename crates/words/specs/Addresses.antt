@@ -4,7 +4,7 @@ use Prim.Native.Nat.{ℕ, _/_, _%_}
 use mathlib.Core.List.{List, [], _∷_}
 use lib.Dec.{eqb, ltb}
 use lib.ListN.{getD}
-use Rattle.words.specs.Choice.{if, bit}
+use Rattle.ground.specs.Choice.{if, bit}
 use Rattle.words.specs.declared.Plane.the-variants.{P0, P1}
 use Rattle.words.specs.declared.KeyGroup.the-variants.{A, B, C, D}
 use Rattle.words.specs.declared.ControlRegister.the-variants.{DecodeMode, GlobalIntensity, ScanLimit, GpioData, PortConfiguration, DisplayTest, DigitType}

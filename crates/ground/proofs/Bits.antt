@@ -10,7 +10,7 @@ use lib.Pow.{pow-pos}
 use lib.Dec.{eqb}
 use lib.Bits.{bitAnd, bitOr, and-shr, and-mod, or-shr, or-mod}
 use borrow.Author.Tests.{eq-eqb, ne-eqb}
-use Rattle.words.specs.Choice.{bit, some}
+use Rattle.ground.specs.Choice.{bit, some}
 
 -- an operation on numbers that goes bit by bit, and the one on truth values that it is at each bit
 module _ (f : ℕ → ℕ → ℕ) (g : Bool → Bool → Bool)

@@ -6,11 +6,11 @@ use mathlib.Core.List.{List}
 use mathlib.Core.Path.{_≡_}
 use lib.Dec.{eqb, ltb}
 use lib.ListN.{getD}
-use Rattle.words.specs.Choice.{if, bit}
+use Rattle.ground.specs.Choice.{if, bit}
 use Rattle.device.specs.declared.Device.{Device}
 use Rattle.wiring.specs.Table.{entryAt}
 use Rattle.wiring.specs.declared.Display.{Display}
-use Rattle.glyphs.specs.Numbers.{segmentsBy}
+use Rattle.glyphs.specs.Masks.{segmentsBy}
 use Rattle.brightness.specs.Dark.{testOn, dark}
 use Rattle.display.specs.Cathode.{displayOf, shownByte, hexMode, fontOf}
 use Rattle.display.specs.Pins.{pinAt}

@@ -5,7 +5,7 @@ use native.Mathlib.Nat.{not-suc-le-zero, le-of-suc-le-suc, eq-or-lt-of-le}
 use mathlib.Core.Bool.{Bool, true, _&&_}
 use mathlib.Core.Logic.{⊎-elim}
 use mathlib.Core.Path.{_≡_}
-use Rattle.words.proofs.Truth.{and-left, and-right}
+use Rattle.ground.proofs.Truth.{and-left, and-right}
 
 abbrev pub all : (ℕ → Bool) → ℕ → Bool
 all f zero = true

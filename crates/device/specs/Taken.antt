@@ -1,7 +1,7 @@
 -- Document 01, "Bits on the wire": what a driver does with the word it takes.
 -- Assumes nothing.
 use Prim.Native.Nat.{ℕ, _+_, _*_, _/_}
-use Rattle.words.specs.Words.{wordOf}
+use Rattle.words.specs.Addresses.{wordOf}
 use Rattle.words.specs.declared.Register.{Register}
 use Rattle.words.specs.declared.Word.{Word}
 use Rattle.words.specs.declared.Word.the-variants.{Write, Read}

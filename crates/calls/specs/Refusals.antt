@@ -5,7 +5,7 @@ use mathlib.Core.Bool.{Bool, true, _&&_}
 use mathlib.Core.List.{List, [], _∷_}
 use lib.Dec.{eqb, leb, ltb}
 use lib.ListN.{length}
-use Rattle.words.specs.Choice.{if}
+use Rattle.ground.specs.Choice.{if}
 use Rattle.wire.specs.Shift.{sizeNumber}
 use Rattle.blink.specs.Part.{planeNumber}
 use Rattle.device.specs.Sound.{soundOf}

@@ -6,7 +6,7 @@ use mathlib.Core.Path.{_≡_}
 use lib.Dec.{eqb}
 use lib.ListN.{length, drop}
 use lib.Seq.{sets}
-use Rattle.words.specs.Choice.{if}
+use Rattle.ground.specs.Choice.{if}
 use Rattle.calls.specs.Calls.{Call}
 use Rattle.row.specs.Row.{numberOn, replyOn, doneOn}
 use Rattle.row.specs.declared.Row.{Row}

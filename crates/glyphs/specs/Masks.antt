@@ -5,7 +5,7 @@ use mathlib.Core.Bool.{Bool}
 use mathlib.Core.List.{List, [], _∷_}
 use mathlib.Core.Path.{_≡_}
 use lib.ListN.{getD}
-use Rattle.words.specs.Choice.{if, bit}
+use Rattle.ground.specs.Choice.{if, bit}
 use Rattle.wiring.specs.Wiring.{none, listOf, digitOf}
 use Rattle.wiring.specs.Table.{segmentEntry}
 use Rattle.wiring.specs.declared.Display.{Display}

@@ -1,0 +1,7 @@
+pub mod Arms
+pub mod Arrays
+pub mod Below
+pub mod Bits
+pub mod Lists
+pub mod Tests
+pub mod Truth

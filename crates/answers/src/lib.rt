@@ -3,9 +3,9 @@ ghost use mathlib.Core.Path.{_≡_};
 ghost use mathlib.Core.List.{[]};
 ghost use Rattle.ground.specs.Lists.{tabulate};
 ghost use Rattle.device.specs.Steps.{shownPlane};
-ghost use Rattle.display.specs.Pins.{pinNumber};
+ghost use Rattle.display.specs.Pins.{pinCode};
 ghost use Rattle.display.specs.declared.Pin.the-variants.{NotDriven};
-ghost use Rattle.calls.specs.Served.{planeIndex};
+ghost use Rattle.calls.specs.Served.{planeCode};
 use brightness::BrightnessAnswer;
 use device::Device;
 use display::SegmentAnswer;
@@ -27,7 +27,7 @@ pub struct InterruptAnswer {
 
 // No pin is driven.
 pub fn segments_refused(number: u8, cathode: usize, font14: &[u16], font16: &[u16]) -> SegmentAnswer
-    ensures { λ r. ⌜ r ≡ record { number = number; pins = tabulate 19 (λ p. pinNumber NotDriven) } ⌝ }
+    ensures { λ r. ⌜ r ≡ record { number = number; pins = tabulate 19 (λ p. pinCode NotDriven) } ⌝ }
 {
     SegmentAnswer {
         number: number,
@@ -45,8 +45,8 @@ pub fn brightness_refused(number: u8, digit: usize) -> BrightnessAnswer
 }
 
 // The number of a plane.
-fn plane_index(plane: Plane) -> u8
-    ensures { λ r. ⌜ r ≡ planeIndex plane ⌝ }
+fn plane_code(plane: Plane) -> u8
+    ensures { λ r. ⌜ r ≡ planeCode plane ⌝ }
 {
     match plane {
         Plane::P0 => 0,
@@ -65,11 +65,11 @@ pub fn shown_refused(number: u8) -> ShownAnswer
 
 // The plane that a driver shows.
 pub fn shown(d: Device) -> ShownAnswer
-    ensures { λ r. ⌜ r ≡ record { number = 0; plane = planeIndex (shownPlane d) } ⌝ }
+    ensures { λ r. ⌜ r ≡ record { number = 0; plane = planeCode (shownPlane d) } ⌝ }
 {
     ShownAnswer {
         number: 0,
-        plane: plane_index(d.shown()),
+        plane: plane_code(d.shown()),
     }
 }
 
@@ -120,7 +120,7 @@ pub fn plane_shown_refused(
 }
 
 pub fn plane_shown(d: Device, p0: &[u8], p1: &[u8], first: usize, last: usize) -> ShownAnswer
-    ensures { λ r. ⌜ r ≡ record { number = 0; plane = planeIndex (shownPlane d) } ⌝ }
+    ensures { λ r. ⌜ r ≡ record { number = 0; plane = planeCode (shownPlane d) } ⌝ }
 {
     shown(d)
 }

@@ -11,7 +11,7 @@ use borrow.Author.Tests.{eqb-true, leb-true, ltb-true}
 use Rattle.ground.proofs.Truth.{passed}
 use Rattle.words.specs.declared.Plane.{Plane}
 use Rattle.words.specs.declared.Plane.the-variants.{P0, P1}
-use Rattle.blink.specs.Part.{planeNumber, lentPlane, planePart}
+use Rattle.blink.specs.Part.{planeRefusal, lentPlane, planePart}
 use Rattle.blink.specs.PartDigits.{PartDigits}
 
 pub record Served (p0 p1 : List ℕ) (first last : ℕ) : Type 0 where
@@ -20,7 +20,7 @@ pub record Served (p0 p1 : List ℕ) (first last : ℕ) : Type 0 where
   pub digits : last < 16
   pub range : first ≤ last
 
-pub served : (p0 p1 : List ℕ) (first last : ℕ) → planeNumber p0 p1 first last ≡ 0 → Served p0 p1 first last
+pub served : (p0 p1 : List ℕ) (first last : ℕ) → planeRefusal p0 p1 first last ≡ 0 → Served p0 p1 first last
 served p0 p1 first last e =
     let a = passed (eqb (length p0) 16) _ 5 e in
     let b = passed (eqb (length p1) 16) _ 5 (a .1) in
@@ -37,24 +37,24 @@ lent-long : (shown : Plane) (p0 p1 : List ℕ) (first last : ℕ) → Served p0 
 lent-long P0 p0 p1 first last s = s .length0
 lent-long P1 p0 p1 first last s = s .length1
 
-part-size : (shown : Plane) (p0 p1 : List ℕ) (first last : ℕ) → planeNumber p0 p1 first last ≡ 0
+part-size : (shown : Plane) (p0 p1 : List ℕ) (first last : ℕ) → planeRefusal p0 p1 first last ≡ 0
     → first + length (planePart shown p0 p1 first last) ≡ last + 1
 part-size shown p0 p1 first last e =
     let s = served p0 p1 first last e in
     let long = lent-long shown p0 p1 first last s in
     rw e (simp (length-take, length-drop) (omega arith))
 
-part-digit : (shown : Plane) (p0 p1 : List ℕ) (first k last : ℕ) → planeNumber p0 p1 first last ≡ 0 → first + k ≤ last
+part-digit : (shown : Plane) (p0 p1 : List ℕ) (first k last : ℕ) → planeRefusal p0 p1 first last ≡ 0 → first + k ≤ last
     → getD (planePart shown p0 p1 first last) k 0 ≡ getD (lentPlane shown p0 p1) (first + k) 0
 part-digit shown p0 p1 first k last e h =
     let l : k < last + 1 - first = omega arith in
     rw (e, getD-take, getD-drop)
 
-p0-digit : (p0 p1 : List ℕ) (first k last : ℕ) → planeNumber p0 p1 first last ≡ 0 → first + k ≤ last
+p0-digit : (p0 p1 : List ℕ) (first k last : ℕ) → planeRefusal p0 p1 first last ≡ 0 → first + k ≤ last
     → getD (planePart P0 p0 p1 first last) k 0 ≡ getD p0 (first + k) 0
 p0-digit p0 p1 first k last = part-digit P0 p0 p1 first k last
 
-p1-digit : (p0 p1 : List ℕ) (first k last : ℕ) → planeNumber p0 p1 first last ≡ 0 → first + k ≤ last
+p1-digit : (p0 p1 : List ℕ) (first k last : ℕ) → planeRefusal p0 p1 first last ≡ 0 → first + k ≤ last
     → getD (planePart P1 p0 p1 first last) k 0 ≡ getD p1 (first + k) 0
 p1-digit p0 p1 first k last = part-digit P1 p0 p1 first k last
 

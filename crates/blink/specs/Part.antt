@@ -9,8 +9,8 @@ use Rattle.words.specs.declared.Plane.{Plane}
 use Rattle.words.specs.declared.Plane.the-variants.{P0, P1}
 
 -- 6 for a lent plane not 16 long, a digit above 15, or a last digit below the first
-abbrev pub planeNumber : List ℕ → List ℕ → ℕ → ℕ → ℕ
-planeNumber p0 p1 first last =
+abbrev pub planeRefusal : List ℕ → List ℕ → ℕ → ℕ → ℕ
+planeRefusal p0 p1 first last =
     if (eqb (length p0) 16) (if (eqb (length p1) 16) (if (ltb last 16) (if (leb first last) 0 6) 6) 6) 6
 
 -- P0, then P1
@@ -21,4 +21,4 @@ lentPlane P1 p0 p1 = p1
 -- digits first to last, both included, of the plane shown; empty where refused
 abbrev pub planePart : Plane → List ℕ → List ℕ → ℕ → ℕ → List ℕ
 planePart shown p0 p1 first last =
-    if (eqb (planeNumber p0 p1 first last) 0) (take (last + 1 - first) (drop first (lentPlane shown p0 p1))) []
+    if (eqb (planeRefusal p0 p1 first last) 0) (take (last + 1 - first) (drop first (lentPlane shown p0 p1))) []

@@ -1,7 +1,7 @@
 // The blink count of a MAX6954: master clocks, the phase, the plane shown, and a part of it from two lent planes.
 ghost use mathlib.Core.Path.{_≡_};
 ghost use Rattle.blink.specs.Blink.{advanced, restarted, phaseAt, shownAt};
-ghost use Rattle.blink.specs.Part.{planeNumber, planePart};
+ghost use Rattle.blink.specs.Part.{planeRefusal, planePart};
 ghost use Rattle.blink.specs.Phases.{Phases};
 ghost use Rattle.blink.specs.PartDigits.{PartDigits};
 use words::Plane;
@@ -52,8 +52,8 @@ pub fn shown(count: u32, fast: bool, blinking: bool) -> Plane
 }
 
 // 6 for a lent plane not 16 long, a digit above 15, or a last digit below the first; else 0.
-pub fn plane_number(p0: &[u8], p1: &[u8], first: usize, last: usize) -> u8
-    ensures { λ r. ⌜ r ≡ planeNumber (now (p0 .entry)) (now (p1 .entry)) first last ⌝ }
+pub fn plane_refusal(p0: &[u8], p1: &[u8], first: usize, last: usize) -> u8
+    ensures { λ r. ⌜ r ≡ planeRefusal (now (p0 .entry)) (now (p1 .entry)) first last ⌝ }
 {
     if p0.len() != 16 {
         return 6;
@@ -80,7 +80,7 @@ pub fn plane_part<'a>(
 ) -> &'a [u8]
     ensures { λ r. ⌜ now r ≡ planePart shown (now (p0 .entry)) (now (p1 .entry)) first last ⌝ }
 {
-    if plane_number(p0, p1, first, last) != 0 {
+    if plane_refusal(p0, p1, first, last) != 0 {
         return &p0[..0];
     }
     let end = last + 1;

@@ -27,10 +27,10 @@ abbrev pub brightnessOf : Device → ℕ → ℕ
 brightnessOf x i = if (testOn x) 7 (sixteenths (nibbleOf x i))
 
 -- 6 for a digit above 15
-abbrev pub brightnessNumber : ℕ → ℕ
-brightnessNumber i = if (ltb i 16) 0 6
+abbrev pub brightnessRefusal : ℕ → ℕ
+brightnessRefusal i = if (ltb i 16) 0 6
 
 -- the answer: its number, and the sixteenths, 0 where refused
 abbrev pub brightnessAnswer : Device → ℕ → BrightnessAnswer
 brightnessAnswer x i =
-    record { number = brightnessNumber i; sixteenths = if (eqb (brightnessNumber i) 0) (brightnessOf x i) 0 }
+    record { number = brightnessRefusal i; sixteenths = if (eqb (brightnessRefusal i) 0) (brightnessOf x i) 0 }

@@ -11,14 +11,14 @@ use borrow.Author.Tests.{eqb-true, eqb-false, leb-true, ltb-true, ltb-false}
 use Rattle.ground.specs.Choice.{if}
 use Rattle.ground.proofs.Truth.{and-left, and-right, passed}
 use Rattle.wire.specs.Bits.{bytesFor}
-use Rattle.wire.specs.Shift.{sizeNumber}
+use Rattle.wire.specs.Shift.{sizeRefusal}
 use Rattle.wire.proofs.SizeLaws.{served as sizes-fit}
 use Rattle.device.specs.declared.Device.{Device}
 use Rattle.calls.specs.Calls.{levels, Call}
-use Rattle.calls.specs.Refusals.{chainNumber, driverNumber, namedNumber, bytesNumber, stepNumber, argumentNumber, soundNumber, allSound, firstOf, numberBy}
+use Rattle.calls.specs.Refusals.{chainRefusal, driverRefusal, namedRefusal, bytesRefusal, stepRefusal, argumentRefusal, soundRefusal, allSound, firstOf, refusalBy}
 use Rattle.calls.specs.Served.{served, givenBack, refusedBack}
 use Rattle.calls.specs.Outcome.{number, after, reply}
-use Rattle.calls.specs.Isolation.{numberAlone, accepted}
+use Rattle.calls.specs.Isolation.{refusalAlone, accepted}
 
 -- the first number of a list that isn't 0 is 0: all are
 pub first-zero : (k : ℕ) (ks : List ℕ) → firstOf (k ∷ ks) ≡ 0 → (k ≡ 0) × (firstOf ks ≡ 0)
@@ -30,15 +30,15 @@ first-zero k ks = go (eqb k 0) refl
 
 -- what the number 0 says
 pub record Accepted (n : ℕ) (sound : Bool) (q : Call) : Type 0 where
-  pub named : namedNumber n q ≡ 0
-  pub bytes : bytesNumber q ≡ 0
-  pub argument : argumentNumber q ≡ 0
+  pub named : namedRefusal n q ≡ 0
+  pub bytes : bytesRefusal q ≡ 0
+  pub argument : argumentRefusal q ≡ 0
   pub all-sound : sound ≡ true
 
 -- each rule of the table gave 0
-pub zero-says : (n : ℕ) (sound : Bool) (q : Call) → numberBy n sound q ≡ 0 → Accepted n sound q
+pub zero-says : (n : ℕ) (sound : Bool) (q : Call) → refusalBy n sound q ≡ 0 → Accepted n sound q
 zero-says n sound q z =
-    let all = go (chainNumber n) (namedNumber n q) (bytesNumber q) (argumentNumber q) (soundNumber sound) z in
+    let all = go (chainRefusal n) (namedRefusal n q) (bytesRefusal q) (argumentRefusal q) (soundRefusal sound) z in
     record { named = all .0; bytes = all .1; argument = all .2; all-sound = passed sound 0 6 (all .3) .0 }
   where
     go : (a b c d e : ℕ) → firstOf (a ∷ b ∷ c ∷ d ∷ e ∷ []) ≡ 0 → (b ≡ 0) × (c ≡ 0) × (d ≡ 0) × (e ≡ 0)
@@ -63,17 +63,17 @@ unfolding reply
 reply-zero q ds z = rw z
 
 -- a driver that is there
-pub driver-there : (n j : ℕ) → driverNumber n j ≡ 0 → (1 ≤ j) × (j ≤ n)
+pub driver-there : (n j : ℕ) → driverRefusal n j ≡ 0 → (1 ≤ j) × (j ≤ n)
 driver-there n j e =
     let t = passed (ltb 0 j && leb j n) 0 1 e .0 in
     (ltb-true 0 j (and-left (ltb 0 j) (leb j n) t), leb-true j n (and-right (ltb 0 j) (leb j n) t))
 
 -- sent bytes that are enough
-pub sent-enough : (c sent room : ℕ) → sizeNumber c sent room ≡ 0 → bytesFor c ≤ sent
+pub sent-enough : (c sent room : ℕ) → sizeRefusal c sent room ≡ 0 → bytesFor c ≤ sent
 sent-enough c sent room e = sizes-fit c sent room e .1
 
 -- pin levels that are five bits
-pub levels-fit : (l : ℕ) → stepNumber (levels l) ≡ 0 → l < 32
+pub levels-fit : (l : ℕ) → stepRefusal (levels l) ≡ 0 → l < 32
 levels-fit l e = omega (arith, ltb-false 31 l (go (ltb 31 l) e))
   where
     go : (b : Bool) → if {A = ℕ} b 6 0 ≡ 0 → b ≡ false
@@ -82,7 +82,7 @@ levels-fit l e = omega (arith, ltb-false 31 l (go (ltb 31 l) e))
 
 module _ (n : ℕ) (q : Call) (ds : List Device) (l : length ds ≡ n) (s : allSound ds ≡ true) where
   -- on sound records the arguments alone decide
-  pub number-alone : number q ds ≡ numberAlone n q
+  pub number-alone : number q ds ≡ refusalAlone n q
   unfolding number
   number-alone = rw (l, s)
 

@@ -19,7 +19,7 @@ use Rattle.calls.specs.Refusals.{allSound}
 use Rattle.calls.specs.Served.{recordOf, stepped, answerTo, served, givenBack, refusedBack}
 use Rattle.calls.specs.Outcome.{after, reply}
 use Rattle.calls.specs.CallLists.{afterAll, numbers, replies}
-use Rattle.calls.specs.Isolation.{numberAlone, accepted, loneStep, loneReply, answeredBy, loneAfter, lone, loneReplies, allAnsweredBy, Full, AllFull, Isolation}
+use Rattle.calls.specs.Isolation.{refusalAlone, accepted, loneStep, loneReply, answeredBy, loneAfter, lone, loneReplies, allAnsweredBy, Full, AllFull, Isolation}
 use Rattle.calls.proofs.Accepted.{zero-says, driver-there, sent-enough, number-alone, after-by, reply-by}
 use Rattle.calls.proofs.Records.{length-after, length-afterAll}
 use Rattle.calls.proofs.Sound.{after-sound, all-sound}
@@ -91,7 +91,7 @@ call-own i q ds s f h g =
 
 -- the theorem's first three parts, at each length
 record Told (n i : ℕ) (qs : List Call) (ds : List Device) : Type 0 where
-  numbered : numbers qs ds ≡ map (numberAlone n) qs
+  numbered : numbers qs ds ≡ map (refusalAlone n) qs
   left : recordOf (afterAll qs ds) i ≡ lone n i qs (recordOf ds i)
   back : allAnsweredBy n i qs (replies qs ds) ≡ loneReplies n i qs (recordOf ds i)
 

@@ -14,7 +14,7 @@ use Rattle.device.specs.Sound.{soundOf}
 use Rattle.device.specs.declared.Device.{Device}
 use Rattle.device.proofs.Sound.{soundness as device-sound}
 use Rattle.calls.specs.Calls.{Step, scan, levels, clocks, Call, access, give, ask}
-use Rattle.calls.specs.Refusals.{stepNumber, allSound}
+use Rattle.calls.specs.Refusals.{stepRefusal, allSound}
 use Rattle.calls.specs.Served.{recordOf, stepped, served}
 use Rattle.calls.specs.Outcome.{number, after}
 use Rattle.calls.specs.CallLists.{afterAll}
@@ -23,7 +23,7 @@ use Rattle.calls.proofs.Accepted.{Accepted, number-says, levels-fit}
 use Rattle.calls.proofs.Records.{sound-at, sound-all, sound-set}
 
 -- what a driver may be given leaves it sound
-stepped-sound : (s : Step) (x : Device) → stepNumber s ≡ 0 → soundOf x ≡ true → soundOf (stepped s x) ≡ true
+stepped-sound : (s : Step) (x : Device) → stepRefusal s ≡ 0 → soundOf x ≡ true → soundOf (stepped s x) ≡ true
 stepped-sound (scan a b c d) x e = device-sound .after-scan x a b c d
 stepped-sound (levels l) x e = device-sound .after-pins x l (levels-fit l e)
 stepped-sound (clocks k) x e = device-sound .after-clocks x k

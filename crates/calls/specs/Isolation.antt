@@ -11,18 +11,18 @@ use Rattle.wire.specs.Bits.{bits, value, unpack, wordAt}
 use Rattle.device.specs.Taken.{taken}
 use Rattle.device.specs.declared.Device.{Device}
 use Rattle.calls.specs.Calls.{Question, Call, access, give, ask}
-use Rattle.calls.specs.Refusals.{allSound, numberBy}
+use Rattle.calls.specs.Refusals.{allSound, refusalBy}
 use Rattle.calls.specs.Served.{recordOf, stepped, answerTo}
 use Rattle.calls.specs.Outcome.{reply}
 use Rattle.calls.specs.CallLists.{afterAll, numbers, replies}
 
 -- the number that the table gives a call on n sound records, by its arguments alone
-abbrev pub numberAlone : ℕ → Call → ℕ
-numberAlone n q = numberBy n true q
+abbrev pub refusalAlone : ℕ → Call → ℕ
+refusalAlone n q = refusalBy n true q
 
 -- accepted means that the table gives 0
 abbrev pub accepted : ℕ → Call → Bool
-accepted n q = eqb (numberAlone n q) 0
+accepted n q = eqb (refusalAlone n q) 0
 
 -- of the n words in bytes, the first is driver n's, the last driver 1's
 abbrev pub ownWord : ℕ → ℕ → List ℕ → ℕ
@@ -80,7 +80,7 @@ AllFull n (q ∷ qs) = Full n q × AllFull n qs
 -- after a list of calls on a chain, driver i is as it would be alone
 pub record Alone (qs : List Call) (ds : List Device) (i : ℕ) : Type 0 where
   -- every call's number is the one that its arguments alone have
-  pub same-numbers : numbers qs ds ≡ map (numberAlone (length ds)) qs
+  pub same-numbers : numbers qs ds ≡ map (refusalAlone (length ds)) qs
   -- its record is the lone driver's
   pub same-record : recordOf (afterAll qs ds) i ≡ lone (length ds) i qs (recordOf ds i)
   -- it has answered what the lone driver answers, in order

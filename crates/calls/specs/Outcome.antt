@@ -7,12 +7,12 @@ use lib.ListN.{length}
 use Rattle.ground.specs.Choice.{if}
 use Rattle.device.specs.declared.Device.{Device}
 use Rattle.calls.specs.Calls.{Call}
-use Rattle.calls.specs.Refusals.{allSound, numberBy}
+use Rattle.calls.specs.Refusals.{allSound, refusalBy}
 use Rattle.calls.specs.Served.{served, givenBack, refusedBack}
 
 -- the number of a call on a chain: 0 where it is served
 unfoldable pub number : Call → List Device → ℕ
-number q ds = numberBy (length ds) (allSound ds) q
+number q ds = refusalBy (length ds) (allSound ds) q
 
 -- the chain's records after it; apart from 0 nothing changes
 unfoldable pub after : Call → List Device → List Device

@@ -15,7 +15,7 @@ use Rattle.device.specs.Taken.{taken}
 use Rattle.device.specs.Steps.{scanned, clocked, shownPlane}
 use Rattle.device.specs.declared.Device.{Device}
 use Rattle.brightness.specs.Brightness.{brightnessOf}
-use Rattle.display.specs.Pins.{pinNumber, segmentsOf}
+use Rattle.display.specs.Pins.{pinCode, segmentsOf}
 use Rattle.display.specs.declared.Pin.the-variants.{NotDriven}
 use Rattle.calls.specs.Calls.{Step, scan, levels, clocks, Question, plane, planeShown, segments, brightness, shown, interrupt, Call, access, give, ask}
 
@@ -42,24 +42,24 @@ stepped (levels l) x = withPins x l
 stepped (clocks k) x = clocked x k
 
 -- the number of a plane in an answer
-abbrev pub planeIndex : Plane → ℕ
-planeIndex P0 = 0
-planeIndex P1 = 1
+abbrev pub planeCode : Plane → ℕ
+planeCode P0 = 0
+planeCode P1 = 1
 
 -- what a driver answers, from its record and what is lent: the part, the 19 pins, the sixteenths, the plane shown, the interrupt
 abbrev pub answerTo : Question → Device → List ℕ
 answerTo (plane p0 p1 first last) x = planePart (shownPlane x) p0 p1 first last
-answerTo (planeShown p0 p1 first last) x = planeIndex (shownPlane x) ∷ []
+answerTo (planeShown p0 p1 first last) x = planeCode (shownPlane x) ∷ []
 answerTo (segments d font14 font16) x = segmentsOf x d font14 font16 .pins
 answerTo (brightness i) x = brightnessOf x i ∷ []
-answerTo shown x = planeIndex (shownPlane x) ∷ []
+answerTo shown x = planeCode (shownPlane x) ∷ []
 answerTo interrupt x = x .registers .keys .interrupt ∷ []
 
 -- a refused answer: the part is empty, no pin is driven, a number is 0
 abbrev pub refusedTo : Question → List ℕ
 refusedTo (plane p0 p1 first last) = []
 refusedTo (planeShown p0 p1 first last) = 0 ∷ []
-refusedTo (segments d font14 font16) = tabulate 19 (λ p. pinNumber NotDriven)
+refusedTo (segments d font14 font16) = tabulate 19 (λ p. pinCode NotDriven)
 refusedTo (brightness i) = 0 ∷ []
 refusedTo shown = 0 ∷ []
 refusedTo interrupt = 0 ∷ []

@@ -1,5 +1,5 @@
 -- The shape of a function that asks a driver something, in place, for any parameters and any result of `Params.antt` and any question:
---     let own = own(..); let number = call_number(chain, driver, own);
+--     let own = own(..); let number = call_refusal(chain, driver, own);
 --     if number != 0 { return refused(number, ..); }
 --     let at = driver - 1; work(chain[at], ..)
 --     asks            its MIR.        ended, clauses      its contract.        walk     the MIR meets it
@@ -33,16 +33,16 @@ use Rattle.device.specs.declared.Device.{Device}
 use Rattle.device.proofs.Device as T
 use Rattle.device.proofs.Device.Laws as T′
 use Rattle.calls.specs.Calls.{Question, ask}
-use Rattle.calls.specs.Refusals.{questionNumber}
+use Rattle.calls.specs.Refusals.{questionRefusal}
 use Rattle.calls.specs.Served.{answerTo, refusedTo}
 use Rattle.calls.specs.Outcome.{outcome, Outcome}
-use Rattle.pass.specs.Found.{callNumber}
+use Rattle.pass.specs.Found.{callRefusal}
 use Rattle.pass.proofs.FoundLaws.{in-range, own-zero, ask-served, ask-refused}
 use Rattle.lent.proofs.Records.{size, byte, device}
 use Rattle.lent.proofs.Walk.{Walk, lands-known, leave, leave-room, forks-to, proves}
 use Rattle.lent.proofs.Params.{Kind, held, inner, outer, inners, outers, type, Of, Seen, seen, seens, values, Args, sent, back, sent-back, sents, spelled, told, machine, Good, stays, goes, ends, fits, Had, has, typed-back, comes, sends, doubled, locals-of, operands, after, env, spot-after, found, alloc-all, pass-all, leave-all, opds-all}
-use Rattle.chain.proofs.Steps.{CallNumber, FnOf, calls-kinds, numbers}
-use Rattle.lent.proofs.call_number.Symbol as number-def
+use Rattle.chain.proofs.Steps.{CallRefusal, FnOf, calls-kinds, numbers}
+use Rattle.lent.proofs.call_refusal.Symbol as number-def
 
 -- the locals after the parameters: own, number, at; and those of the test and the read
 abbrev locals : List Local
@@ -62,7 +62,7 @@ is-zero n h = eqb→eq n 0 (go (eqb n 0) h)
 -- `is r ds x`: r is the result on the records ds where the call's outcome is x. `ψ-refused (n, p) r` and `ψ-work (d, p) r` are what refused and work say of their results
 module _ (own refused work : Name) (k : ℕ) (Ks : List (Kind k)) (R : Kind k) (question : Seen Ks → Question) (is : Of R → List Device → Outcome → Type 0)
     (ψ-refused : Seen (held byte ∷ Ks) → Of R → Type 0) (refuses : (n : ℕ) (p : Seen Ks) (r : Of R) (ds : List Device) → ψ-refused (n, p) r → is r ds (record { number = n; records = ds; back = refusedTo (question p) }))
-    (ψ-work : Seen (held device ∷ Ks) → Of R → Type 0) (answers : (d : Device) (p : Seen Ks) (r : Of R) (ds : List Device) → questionNumber (question p) ≡ 0 → ψ-work (d, p) r → is r ds (record { number = 0; records = ds; back = answerTo (question p) d })) where
+    (ψ-work : Seen (held device ∷ Ks) → Of R → Type 0) (answers : (d : Device) (p : Seen Ks) (r : Of R) (ds : List Device) → questionRefusal (question p) ≡ 0 → ψ-work (d, p) r → is r ds (record { number = 0; records = ds; back = answerTo (question p) d })) where
   -- the number of a local after the parameters
   abbrev at : ℕ → ℕ
   at j = suc (suc (suc (after Ks j)))
@@ -98,7 +98,7 @@ module _ (own refused work : Name) (k : ℕ) (Ks : List (Kind k)) (R : Kind k) (
   stayed = (stay-dropped (shrSliceOf (0 ∷ []) tt (plain (λ _. device .row))) yes, stays (held size ∷ Ks))
 
   abbrev ψ-own : Seen Ks → ℕ → Type 0
-  ψ-own p r = r ≡ questionNumber (question p)
+  ψ-own p r = r ≡ questionRefusal (question p)
 
   abbrev pub Own : {M : Type 1} (𝓤 : URA M) (H : Heap 𝓤) (A : Atoms 𝓤) → Contract 𝓤
   Own 𝓤 H A = FnOf Ks (held byte) ψ-own 𝓤 H A
@@ -126,7 +126,7 @@ module _ (own refused work : Name) (k : ℕ) (Ks : List (Kind k)) (R : Kind k) (
     q = question (seens (κs .1) Ks (sents κs Ks xs))
 
     abbrev nr : ℕ
-    nr = callNumber ys j (questionNumber q)
+    nr = callRefusal ys j (questionRefusal q)
 
     -- what the call returns: r, whose machine value is w
     abbrev Answer : Type 0
@@ -136,7 +136,7 @@ module _ (own refused work : Name) (k : ℕ) (Ks : List (Kind k)) (R : Kind k) (
     meets : (r : typeAt (inner R) (κs .1) .Denot) (x : Outcome) → outcome (ask j q) ys ≡ x → is (seen (κs .1) R r) ys x → is (seen (κs .1) R r) ys (outcome (ask j q) ys)
     meets r x e i = subst (λ (x : Outcome). is (seen (κs .1) R r) ys x) (sym e) i
 
-    walk : (𝓣 : Tables 𝓤 H) → Triple 𝓤 (𝓣 .C number-def.name) (CallNumber 𝓤 H A mem run) → Triple 𝓤 (𝓣 .C own) (Own 𝓤 H A) → Triple 𝓤 (𝓣 .C refused) (Refused 𝓤 H A) → Triple 𝓤 (𝓣 .C work) (Work 𝓤 H A) → Is (ShrSlice (named 0) (κs .0) (device .row)) x (slice-vals x) → Good κs (held size ∷ Ks) (j, xs) → Walk 𝓤 H A ended stayed (clauses 𝓤) 𝓣 asks y tt
+    walk : (𝓣 : Tables 𝓤 H) → Triple 𝓤 (𝓣 .C number-def.name) (CallRefusal 𝓤 H A mem run) → Triple 𝓤 (𝓣 .C own) (Own 𝓤 H A) → Triple 𝓤 (𝓣 .C refused) (Refused 𝓤 H A) → Triple 𝓤 (𝓣 .C work) (Work 𝓤 H A) → Is (ShrSlice (named 0) (κs .0) (device .row)) x (slice-vals x) → Good κs (held size ∷ Ks) (j, xs) → Walk 𝓤 H A ended stayed (clauses 𝓤) 𝓣 asks y tt
     walk 𝓣 known-number known-own known-refused known-work is-x good =
         qed W ((‵ (flft (κs .0) (qs .0)) ⊛ raw (toks 𝓤 A k (κs .1) (qs .1))) ∷ ‵ (owns (typesAt (ended .signature .params) κs) (y .3) (y .4)) ∷ []) ∵ enter ! (𝓣 .C) (𝓣 .Λ) asks _ _ $
         alloc1 ! (λ l₀. alloc1 ! (λ l₁. alloc1 ! (λ l₂. alloc-all ! Ks (λ bs. alloc1 ! (λ m₀. alloc1 ! (λ m₁. alloc1 ! (λ m₂. alloc1 ! (λ m₃. alloc1 ! (λ m₄. alloc1 ! (λ m₅. alloc1 ! (λ m₆. alloc0 ! $ params1 ! $
@@ -150,9 +150,9 @@ module _ (own refused work : Name) (k : ℕ) (Ks : List (Kind k)) (R : Kind k) (
         -- [the slice, twice; what the callees ask of the parameters, twice; the token; the other tokens; the parameters; the seven locals after them; …; _2; …; _1; …; _0; …]
         move ! (2 ∷ 5 ∷ 6 ∷ 3 ∷ 0 ∷ 1 ∷ 4 ∷ []) $
         calls-kinds ! (fmOf 𝓤 H (W .laws) 𝓣) Ks (held byte) ψ-own known-own (κs .1) (qs .1) (sents κs Ks xs) (opds-all (κs .1) ! Ks bs (sents κs Ks xs) (λ i. suc (suc (suc i))) E (λ i. refl)) (λ w r e.
-        lands-known ! byte (questionNumber q) w r e (λ is-own wt-own. land ! (found ! (spot 0) (stop !)) (init ! 18 refl wt-own) $
+        lands-known ! byte (questionRefusal q) w r e (λ is-own wt-own. land ! (found ! (spot 0) (stop !)) (init ! 18 refl wt-own) $
         nothing ! $ move ! (6 ∷ 0 ∷ []) $ join ! $ move ! (0 ∷ 4 ∷ []) $
-        numbers ! (fmOf 𝓤 H (W .laws) 𝓣) mem run known-number (κs .0) (qs .0) x j (questionNumber q) (good .0) is-own
+        numbers ! (fmOf 𝓤 H (W .laws) 𝓣) mem run known-number (κs .0) (qs .0) x j (questionRefusal q) (good .0) is-own
         (and-then ! (load ! (from ! (stop !)) (look ! 21 refl)) (and-then ! (load ! (from ! (stop !)) (look ! 19 refl)) (and-then ! (load ! (found ! (spot 0) (stop !)) (look ! 17 refl)) (no-more !)))) (λ is-nr wt-nr. land ! (found ! (spot 1) (stop !)) (init ! 15 refl wt-nr) $
         -- [the slice's token; the other tokens; the parameters; what the callee asks of them; the slice; the seven locals, from 5; …; _2 at 19; _1 at 21; _0 at 23]
         assigns ! (bin ! (load ! (found ! (spot 1) (stop !)) (look ! 15 refl)) (lit ! tt) tt) (found ! (spot 3) (stop !)) (init ! 11 refl (tt, tt)) $
@@ -165,7 +165,7 @@ module _ (own refused work : Name) (k : ℕ) (Ks : List (Kind k)) (R : Kind k) (
         move ! (4 ∷ 1 ∷ 2 ∷ 0 ∷ 3 ∷ []) $ end (w′, (r′, meets r′ _ (ask-refused ys j q (not-zero nr no)) (refuses nr (seens (κs .1) Ks (sents κs Ks xs)) (seen (κs .1) R r′) ys e′))))))
         (λ end yes′.
         let z : nr ≡ 0 = is-zero nr yes′ in
-        let there = in-range ys j (questionNumber q) z in
+        let there = in-range ys j (questionRefusal q) z in
         let i : ℕ = j - 1 in
         let l : i < length ys = omega (arith, there .0, there .1) in
         let d : Device = getD ys i powerUp in
@@ -184,7 +184,7 @@ module _ (own refused work : Name) (k : ℕ) (Ks : List (Kind k)) (R : Kind k) (
         calls-kinds ! (fmOf 𝓤 H (W .laws) 𝓣) (held device ∷ Ks) R ψ-work known-work (κs .1) (qs .1) (d, sents κs Ks xs)
         (and-then ! (load ! (found ! (spot 6) (stop !)) (look ! 4 refl)) (opds-all (κs .1) ! Ks bs (sents κs Ks xs) (λ i. suc (suc (suc i))) E (λ i. refl))) (λ w′ r′ e′.
         peeks ! (typeAt (inner R) (κs .1)) (Is (typeAt (inner R) (κs .1))) (shows 𝓤 H A (typeAt (inner R) (κs .1))) r′ (w′ ∷ []) (λ is-r. land ! (from ! (stop !)) (init ! 23 refl (typed-back 𝓤 H A W κs R r′ w′ is-r)) $
-        forget ! 5 refl $ forget ! 7 refl $ forget ! 9 refl $ forget ! 13 refl $ move ! (4 ∷ 1 ∷ 2 ∷ 0 ∷ 3 ∷ []) $ end (w′, (r′, meets r′ _ (ask-served ys j q z) (answers d (seens (κs .1) Ks (sents κs Ks xs)) (seen (κs .1) R r′) ys (own-zero ys j (questionNumber q) z) e′)))))))))
+        forget ! 5 refl $ forget ! 7 refl $ forget ! 9 refl $ forget ! 13 refl $ move ! (4 ∷ 1 ∷ 2 ∷ 0 ∷ 3 ∷ []) $ end (w′, (r′, meets r′ _ (ask-served ys j q z) (answers d (seens (κs .1) Ks (sents κs Ks xs)) (seen (κs .1) R r′) ys (own-zero ys j (questionRefusal q) z) e′)))))))))
         (λ a.
         -- [the slice's token; the other tokens; the parameters; the result; true; the seven locals, from 5; …; _2 at 19; _1 at 21; _0 at 23]
         returns ! (look ! 23 refl) $ leave ! 23 23 refl refl $ leave ! 21 21 refl refl $ leave ! 19 19 refl refl $ move ! (2 ∷ []) $ leave-all (κs .1) ! Ks bs (sents κs Ks xs) $
@@ -195,7 +195,7 @@ module _ (own refused work : Name) (k : ℕ) (Ks : List (Kind k)) (R : Kind k) (
         use1 W (‵ (typeAt (outer R) κs .own (back κs R (a .1 .0)) (a .0 ∷ []))) (comes 𝓤 H A W κs R (a .1 .0) (a .0)) $ done !)))))))))))))))
 
   pub asks-spec : {M : Type 1} (𝓤 : URA M) (H : Heap 𝓤) (𝓜 : Model 𝓤 H) (𝓖 : GhostRules 𝓤 H) (𝓡 : Running 𝓤 H 𝓜) (γ : routine.Env) (name : Name) → Closed 𝓤 H (tables 𝓤 H 𝓜 𝓡 γ .C) (tables 𝓤 H 𝓜 𝓡 γ .Λ) name asks
-      → Triple 𝓤 (𝓡 .run (γ number-def.name)) (CallNumber 𝓤 H (𝓖 .A) (𝓜 .mem) (𝓡 .run)) → Triple 𝓤 (𝓡 .run (γ own)) (Own 𝓤 H (𝓖 .A)) → Triple 𝓤 (𝓡 .run (γ refused)) (Refused 𝓤 H (𝓖 .A)) → Triple 𝓤 (𝓡 .run (γ work)) (Work 𝓤 H (𝓖 .A))
+      → Triple 𝓤 (𝓡 .run (γ number-def.name)) (CallRefusal 𝓤 H (𝓖 .A) (𝓜 .mem) (𝓡 .run)) → Triple 𝓤 (𝓡 .run (γ own)) (Own 𝓤 H (𝓖 .A)) → Triple 𝓤 (𝓡 .run (γ refused)) (Refused 𝓤 H (𝓖 .A)) → Triple 𝓤 (𝓡 .run (γ work)) (Work 𝓤 H (𝓖 .A))
       → Triple 𝓤 (𝓡 .run (γ name)) (tripleOf 𝓤 H (𝓖 .A) (ended .signature) (closing 𝓤 H (𝓖 .A) ended (clauses 𝓤)))
   unfolding tablesOf
   asks-spec 𝓤 H 𝓜 𝓖 𝓡 γ name closed known-number known-own known-refused known-work =

@@ -1,5 +1,5 @@
 -- The shape of a function that gives a driver something, in place, for any parameters of `Params.antt` and any step:
---     let own = own(..); let number = call_number(chain, driver, own);
+--     let own = own(..); let number = call_refusal(chain, driver, own);
 --     if number == 0 { let at = driver - 1; let old = chain[at]; chain[at] = old.work(..); }
 --     number
 --     gives             its MIR.        ended, clauses      its contract.        walk     the MIR meets it
@@ -29,16 +29,16 @@ use Rattle.lent.proofs.Logic.{_≡_, refl, sym, ap, subst, ℕ, _-_, _<_, List,
 use Rattle.device.specs.PowerUp.{powerUp}
 use Rattle.device.specs.declared.Device.{Device}
 use Rattle.calls.specs.Calls.{Step, give}
-use Rattle.calls.specs.Refusals.{stepNumber}
+use Rattle.calls.specs.Refusals.{stepRefusal}
 use Rattle.calls.specs.Served.{stepped}
 use Rattle.calls.specs.Outcome.{outcome}
-use Rattle.pass.specs.Found.{callNumber}
+use Rattle.pass.specs.Found.{callRefusal}
 use Rattle.pass.proofs.FoundLaws.{in-range, give-served, give-refused}
 use Rattle.lent.proofs.Records.{size, byte, device}
 use Rattle.lent.proofs.Walk.{Walk, lands-known, leave, leave-room, joins, proves}
 use Rattle.lent.proofs.Params.{Kind, held, inners, outers, Seen, seens, values, Args, sents, spelled, told, machine, Good, stays, goes, ends, fits, Had, has, sends, doubled, locals-of, operands, after, env, spot-after, found, alloc-all, pass-all, leave-all, opds-all}
-use Rattle.chain.proofs.Steps.{ref, CallNumber, FnOf, calls-kinds, numbers-mut}
-use Rattle.lent.proofs.call_number.Symbol as number-def
+use Rattle.chain.proofs.Steps.{ref, CallRefusal, FnOf, calls-kinds, numbers-mut}
+use Rattle.lent.proofs.call_refusal.Symbol as number-def
 
 abbrev pointed : Ty
 pointed = pointee (device .row .written)
@@ -94,7 +94,7 @@ module _ (own work : Name) (k : ℕ) (Ks : List (Kind k)) (step : Seen Ks → St
   stayed = (stay-slice (0 ∷ []) tt (plain (λ _. device .row)), stays (held size ∷ Ks))
 
   abbrev ψ-own : Seen Ks → ℕ → Type 0
-  ψ-own p r = r ≡ stepNumber (step p)
+  ψ-own p r = r ≡ stepRefusal (step p)
 
   abbrev ψ-work : Seen (held device ∷ Ks) → Device → Type 0
   ψ-work p r = r ≡ stepped (step (p .1)) (p .0)
@@ -113,13 +113,13 @@ module _ (own work : Name) (k : ℕ) (Ks : List (Kind k)) (step : Seen Ks → St
     st = step (seens (κs .1) Ks (sents κs Ks xs))
 
     abbrev nr : ℕ
-    nr = callNumber ys j (stepNumber st)
+    nr = callRefusal ys j (stepRefusal st)
 
     -- how the chain can be left
     abbrev Left : Type 0
     Left = (zs : List Device) × ((outcome (give j st) ys ≡ record { number = nr; records = zs; back = [] }) × (length zs ≡ length ys))
 
-    walk : (𝓣 : Tables 𝓤 H) → Triple 𝓤 (𝓣 .C number-def.name) (CallNumber 𝓤 H A mem run) → Triple 𝓤 (𝓣 .C own) (Own 𝓤 H A) → Triple 𝓤 (𝓣 .C work) (Work 𝓤 H A) → Room (device .row) (length ys) → Good κs (held size ∷ Ks) (j, xs) → Walk 𝓤 H A ended stayed (clauses 𝓤) 𝓣 gives y tt
+    walk : (𝓣 : Tables 𝓤 H) → Triple 𝓤 (𝓣 .C number-def.name) (CallRefusal 𝓤 H A mem run) → Triple 𝓤 (𝓣 .C own) (Own 𝓤 H A) → Triple 𝓤 (𝓣 .C work) (Work 𝓤 H A) → Room (device .row) (length ys) → Good κs (held size ∷ Ks) (j, xs) → Walk 𝓤 H A ended stayed (clauses 𝓤) 𝓣 gives y tt
     walk 𝓣 known-number known-own known-work room is =
         qed W ((‵ (flft (κs .0) (qs .0)) ⊛ raw (toks 𝓤 A k (κs .1) (qs .1))) ∷ ‵ (owns (typesAt (ended .signature .params) κs) (y .3) (y .4)) ∷ []) ∵ enter ! (𝓣 .C) (𝓣 .Λ) gives _ _ $
         alloc1 ! (λ l₀. alloc1 ! (λ l₁. alloc1 ! (λ l₂. alloc-all ! Ks (λ bs. alloc1 ! (λ m₀. alloc1 ! (λ m₁. alloc1 ! (λ m₂. alloc1 ! (λ m₃. alloc1 ! (λ m₄. alloc1 ! (λ m₅. alloc1 ! (λ m₆. alloc1 ! (λ m₇. alloc1 ! (λ m₈. alloc1 ! (λ m₉. alloc1 ! (λ p₀. alloc0 ! $ params1 ! $
@@ -132,19 +132,19 @@ module _ (own work : Name) (k : ℕ) (Ks : List (Kind k)) (step : Seen Ks → St
         -- [what own asks; what work asks; the token; the other tokens; the slice; the parameters; the eleven locals after them; …; _2; …; _1; …; _0; …]
         move ! (0 ∷ 3 ∷ 5 ∷ 1 ∷ 4 ∷ 2 ∷ []) $
         calls-kinds ! (fmOf 𝓤 H (W .laws) 𝓣) Ks (held byte) ψ-own known-own (κs .1) (qs .1) (sents κs Ks xs) (opds-all (κs .1) ! Ks bs (sents κs Ks xs) (λ i. suc (suc (suc i))) E (λ i. refl)) (λ w r e.
-        lands-known ! byte (stepNumber st) w r e (λ is-own wt-own. land ! (found ! (spot 0) (stop !)) (init ! 25 refl wt-own) $
+        lands-known ! byte (stepRefusal st) w r e (λ is-own wt-own. land ! (found ! (spot 0) (stop !)) (init ! 25 refl wt-own) $
         -- [the other tokens; the parameters; what work asks; the slice; its token; the eleven locals, from 5; …; _2 at 27; _1 at 29; _0 at 31]
         assigns ! (addr ! (from ! (fld ! refl (hop ! (look-in ! 29 (sub ! 0 refl (whole !))) (stop !))))) (found ! (spot 4) (stop !)) (init ! 17 refl (tt, tt)) $
         assigns ! (agg ! (and-then ! (load ! (found ! (spot 4) (stop !)) (look ! 17 refl)) (and-then ! (load ! (from ! (fld ! refl (stop !))) (look-in ! 29 (sub ! 1 refl (whole !)))) (no-more !)))) (found ! (spot 5) (stop !)) (init ! 15 refl (tt, (tt, (record { fits = room .0 }, tt)))) $
         move ! (3 ∷ 4 ∷ []) $
-        numbers-mut ! (fmOf 𝓤 H (W .laws) 𝓣) mem run known-number (κs .0) (qs .0) b o γ ys room j (stepNumber st) (is .0) is-own
+        numbers-mut ! (fmOf 𝓤 H (W .laws) 𝓣) mem run known-number (κs .0) (qs .0) b o γ ys room j (stepRefusal st) (is .0) is-own
         (λ ν δ. and-then ! (load ! (found ! (spot 5) (stop !)) (look ! 15 refl)) (and-then ! (load ! (from ! (stop !)) (look ! 27 refl)) (and-then ! (load ! (found ! (spot 0) (stop !)) (look ! 25 refl)) (no-more !)))) (λ is-nr wt-nr. land ! (found ! (spot 1) (stop !)) (init ! 23 refl wt-nr) $
         assigns ! (bin ! (load ! (found ! (spot 1) (stop !)) (look ! 23 refl)) (lit ! tt) tt) (found ! (spot 6) (stop !)) (init ! 13 refl (tt, tt)) $
         fsplit ! $ pureL ! (at-slice (device .row) (ref γ b o ys) (slice-vals (ref γ b o ys))) (λ _. fsplit ! $ opens-slice ! tt (device .row) ys b o $
         -- [the records; the open borrow; obs; auth; the other tokens; the parameters; what work asks; the eleven locals, from 7; …; _2 at 29; _1 at 31; _0 at 33]
         joins ! 0 (λ (x : Left). ‵ (row (device .row) fullShare (x .0) b o)) (load ! (found ! (spot 6) (stop !)) (look ! 15 refl)) (λ Q end served.
         let z : nr ≡ 0 = eqb→eq nr 0 served in
-        let there = in-range ys j (stepNumber st) z in
+        let there = in-range ys j (stepRefusal st) z in
         let i : ℕ = j - 1 in
         let l : i < length ys = omega (arith, there .0, there .1) in
         let d : Device = getD ys i powerUp in
@@ -183,7 +183,7 @@ module _ (own work : Name) (k : ℕ) (Ks : List (Kind k)) (step : Seen Ks → St
         owned ! (byte .row) (Is (byte .row)) (byte .makes 𝓤 H A W) nr _ is-nr $ done !))))))))))))))))))))
 
   pub gives-spec : {M : Type 1} (𝓤 : URA M) (H : Heap 𝓤) (𝓜 : Model 𝓤 H) (𝓖 : GhostRules 𝓤 H) (𝓡 : Running 𝓤 H 𝓜) (γ : routine.Env) (name : Name) → Closed 𝓤 H (tables 𝓤 H 𝓜 𝓡 γ .C) (tables 𝓤 H 𝓜 𝓡 γ .Λ) name gives
-      → Triple 𝓤 (𝓡 .run (γ number-def.name)) (CallNumber 𝓤 H (𝓖 .A) (𝓜 .mem) (𝓡 .run)) → Triple 𝓤 (𝓡 .run (γ own)) (Own 𝓤 H (𝓖 .A)) → Triple 𝓤 (𝓡 .run (γ work)) (Work 𝓤 H (𝓖 .A))
+      → Triple 𝓤 (𝓡 .run (γ number-def.name)) (CallRefusal 𝓤 H (𝓖 .A) (𝓜 .mem) (𝓡 .run)) → Triple 𝓤 (𝓡 .run (γ own)) (Own 𝓤 H (𝓖 .A)) → Triple 𝓤 (𝓡 .run (γ work)) (Work 𝓤 H (𝓖 .A))
       → Triple 𝓤 (𝓡 .run (γ name)) (tripleOf 𝓤 H (𝓖 .A) (ended .signature) (closing 𝓤 H (𝓖 .A) ended (clauses 𝓤)))
   unfolding tablesOf
   gives-spec 𝓤 H 𝓜 𝓖 𝓡 γ name closed known-number known-own known-work =

@@ -52,8 +52,8 @@ pub extern "C" fn max6954_scan(
 ) -> u8
     ensures { λ r. ⌜ outcome (give driver (scan a b c d)) (now (chain .entry)) ≡ record { number = r; records = now (chain .exit); back = [] } ⌝ }
 {
-    let own = pass::scan_number(a, b, c, d);
-    let number = lent::call_number(chain, driver, own);
+    let own = pass::scan_refusal(a, b, c, d);
+    let number = lent::call_refusal(chain, driver, own);
     if number == 0 {
         let at = driver - 1;
         let old = chain[at];
@@ -67,8 +67,8 @@ pub extern "C" fn max6954_scan(
 pub extern "C" fn max6954_set_pins(chain: &mut [Device], driver: usize, levels: u32) -> u8
     ensures { λ r. ⌜ outcome (give driver (pinLevels levels)) (now (chain .entry)) ≡ record { number = r; records = now (chain .exit); back = [] } ⌝ }
 {
-    let own = pass::levels_number(levels);
-    let number = lent::call_number(chain, driver, own);
+    let own = pass::levels_refusal(levels);
+    let number = lent::call_refusal(chain, driver, own);
     if number == 0 {
         let at = driver - 1;
         let old = chain[at];
@@ -82,8 +82,8 @@ pub extern "C" fn max6954_set_pins(chain: &mut [Device], driver: usize, levels: 
 pub extern "C" fn max6954_add_clocks(chain: &mut [Device], driver: usize, clocks: u32) -> u8
     ensures { λ r. ⌜ outcome (give driver (masterClocks clocks)) (now (chain .entry)) ≡ record { number = r; records = now (chain .exit); back = [] } ⌝ }
 {
-    let own = pass::clocks_number(clocks);
-    let number = lent::call_number(chain, driver, own);
+    let own = pass::clocks_refusal(clocks);
+    let number = lent::call_refusal(chain, driver, own);
     if number == 0 {
         let at = driver - 1;
         let old = chain[at];
@@ -103,8 +103,8 @@ pub fn max6954_plane<'a>(
 ) -> &'a [u8]
     ensures { λ r. ⌜ outcome (ask driver (plane (now (p0 .entry)) (now (p1 .entry)) first last)) (now (chain .entry)) .back ≡ now r ⌝ }
 {
-    let own = pass::plane_number(p0, p1, first, last);
-    let number = lent::call_number(chain, driver, own);
+    let own = pass::plane_refusal(p0, p1, first, last);
+    let number = lent::call_refusal(chain, driver, own);
     if number != 0 {
         return answers::plane_refused(number, p0, p1, first, last);
     }
@@ -124,8 +124,8 @@ pub extern "C" fn max6954_plane_number(
 ) -> u8
     ensures { λ r. ⌜ outcome (ask driver (plane (now (p0 .entry)) (now (p1 .entry)) first last)) (now (chain .entry)) .number ≡ r ⌝ }
 {
-    let own = blink::plane_number(p0, p1, first, last);
-    let number = lent::call_number(chain, driver, own);
+    let own = blink::plane_refusal(p0, p1, first, last);
+    let number = lent::call_refusal(chain, driver, own);
     if number != 0 {
         return answers::number_refused(number, p0, p1, first, last);
     }
@@ -145,8 +145,8 @@ pub extern "C" fn max6954_plane_shown(
 ) -> ShownAnswer
     ensures { λ r. ⌜ outcome (ask driver (planeShown (now (p0 .entry)) (now (p1 .entry)) first last)) (now (chain .entry)) ≡ record { number = r .number; records = now (chain .entry); back = r .plane ∷ [] } ⌝ }
 {
-    let own = blink::plane_number(p0, p1, first, last);
-    let number = lent::call_number(chain, driver, own);
+    let own = blink::plane_refusal(p0, p1, first, last);
+    let number = lent::call_refusal(chain, driver, own);
     if number != 0 {
         return answers::plane_shown_refused(number, p0, p1, first, last);
     }
@@ -165,8 +165,8 @@ pub extern "C" fn max6954_segments(
 ) -> SegmentAnswer
     ensures { λ r. ⌜ outcome (ask driver (segments cathode (now (font14 .entry)) (now (font16 .entry)))) (now (chain .entry)) ≡ record { number = r .number; records = now (chain .entry); back = r .pins } ⌝ }
 {
-    let own = display::segments_number(cathode, font14, font16);
-    let number = lent::call_number(chain, driver, own);
+    let own = display::segments_refusal(cathode, font14, font16);
+    let number = lent::call_refusal(chain, driver, own);
     if number != 0 {
         return answers::segments_refused(number, cathode, font14, font16);
     }
@@ -183,8 +183,8 @@ pub extern "C" fn max6954_brightness(
 ) -> BrightnessAnswer
     ensures { λ r. ⌜ outcome (ask driver (brightness digit)) (now (chain .entry)) ≡ record { number = r .number; records = now (chain .entry); back = r .sixteenths ∷ [] } ⌝ }
 {
-    let own = pass::brightness_number(digit);
-    let number = lent::call_number(chain, driver, own);
+    let own = pass::brightness_refusal(digit);
+    let number = lent::call_refusal(chain, driver, own);
     if number != 0 {
         return answers::brightness_refused(number, digit);
     }
@@ -197,8 +197,8 @@ pub extern "C" fn max6954_brightness(
 pub extern "C" fn max6954_shown(chain: &[Device], driver: usize) -> ShownAnswer
     ensures { λ r. ⌜ outcome (ask driver shown) (now (chain .entry)) ≡ record { number = r .number; records = now (chain .entry); back = r .plane ∷ [] } ⌝ }
 {
-    let own = pass::shown_number();
-    let number = lent::call_number(chain, driver, own);
+    let own = pass::shown_refusal();
+    let number = lent::call_refusal(chain, driver, own);
     if number != 0 {
         return answers::shown_refused(number);
     }
@@ -211,8 +211,8 @@ pub extern "C" fn max6954_shown(chain: &[Device], driver: usize) -> ShownAnswer
 pub extern "C" fn max6954_interrupt(chain: &[Device], driver: usize) -> InterruptAnswer
     ensures { λ r. ⌜ outcome (ask driver interrupt) (now (chain .entry)) ≡ record { number = r .number; records = now (chain .entry); back = r .raised ∷ [] } ⌝ }
 {
-    let own = pass::interrupt_number();
-    let number = lent::call_number(chain, driver, own);
+    let own = pass::interrupt_refusal();
+    let number = lent::call_refusal(chain, driver, own);
     if number != 0 {
         return answers::interrupt_refused(number);
     }

@@ -17,7 +17,7 @@ use Rattle.wiring.specs.PackedRows.{byteOf, packed, litNumber, entryBit, packed
 use Rattle.wiring.specs.declared.Display.{Display}
 use Rattle.wiring.specs.declared.Display.the-variants.{Sixteen, Fourteen, SevenPair}
 use Rattle.wiring.proofs.Bytes.{byte-packed, byte-and, byte-or, byte-add, byte-shifted, byte-repeated}
-use Rattle.display.specs.Pins.{pinNumber}
+use Rattle.display.specs.Pins.{pinCode}
 use Rattle.display.specs.declared.Pin.the-variants.{Lit, Unlit}
 use Rattle.display.specs.ByTable.{pinBy}
 use Rattle.display.specs.PackedPins.{ones, sevenBits, carriedBy, nonzeroBytes, eightPins, wordAt}
@@ -136,16 +136,16 @@ module _ (segments : ℕ) (hs : segments < 2 ^ 64) where
   abbrev number : ℕ → ℕ → ℕ
   number lit n = bitOr lit (if (eqb (picked unlit n) 0) 0 1)
 
-  segment-pin : (n : ℕ) → ltb n 17 ≡ true → number 2 n ≡ pinNumber (pinBy segments n)
+  segment-pin : (n : ℕ) → ltb n 17 ≡ true → number 2 n ≡ pinCode (pinBy segments n)
   segment-pin n e =
       let h = ltb-true n 17 e in
       rw (picked-bit unlit n h, not-bit 64 n segments (omega arith) hs, e) (go (bit n segments))
     where
-      go : (b : Bool) → bitOr 2 (if (not (not b)) 0 1) ≡ pinNumber (if b Lit Unlit)
+      go : (b : Bool) → bitOr 2 (if (not (not b)) 0 1) ≡ pinCode (if b Lit Unlit)
       go true = refl
       go false = refl
 
-  wire-pin : (w : Wire) → numbered-wire w ≡ true → number (litNumber w) (wireEntry w) ≡ pinNumber (pinBy segments (wireEntry w))
+  wire-pin : (w : Wire) → numbered-wire w ≡ true → number (litNumber w) (wireEntry w) ≡ pinCode (pinBy segments (wireEntry w))
   wire-pin cathode e = simp and-zero-r
   wire-pin notDriven e = simp and-zero-r
   wire-pin (carries none) e = simp and-zero-r
@@ -170,7 +170,7 @@ module _ (k : Display) (d p segments : ℕ) (hd : d < 8) (hp : p < 19) (hs : seg
   word q = eightPins (2 ^ 64 - 1 - segments) (packedPins k d q)
 
   abbrev by-table : ℕ
-  by-table = pinNumber (pinBy segments (wireEntry (wireAt k d p)))
+  by-table = pinCode (pinBy segments (wireEntry (wireAt k d p)))
 
   in-word : (q : ℕ) → q + p % 8 ≡ p → byteOf (word q) (p % 8) ≡ by-table
   in-word q e =

@@ -26,7 +26,7 @@ use Rattle.glyphs.specs.Masks.{segmentsBy}
 use Rattle.glyphs.proofs.Segments.{segment-by-segment}
 use Rattle.brightness.specs.Dark.{testOn, dark}
 use Rattle.display.specs.Cathode.{displayOf, shownByte, hexMode, fontOf, segmentOn}
-use Rattle.display.specs.Pins.{pinNumber, pinOf, pinAt, segmentsNumber}
+use Rattle.display.specs.Pins.{pinCode, pinOf, pinAt, segmentsRefusal}
 use Rattle.display.specs.declared.Pin.{Pin}
 use Rattle.display.specs.declared.Pin.the-variants.{NotDriven, Lit, Unlit}
 use Rattle.display.specs.ByTable.{allSegments, litSegments, pinBy, tablePin, PinByPin}
@@ -113,9 +113,9 @@ module _ (x : Device) (d : ℕ) (font14 font16 : List ℕ)
   -- the pins of a cathode that is not dark
   pub pins-lit : (segments : ℕ) (r : Display) (row : PackedRow) → segments < 2 ^ 64 → dark x d ≡ false → r ≡ k → segments ≡ litSegments x d font14 font16
       → row ≡ packedRow r d
-      → pinsBy (2 ^ 64 - 1 - segments) row ≡ tabulate 19 (λ p. pinNumber (pinAt x d font14 font16 p))
+      → pinsBy (2 ^ 64 - 1 - segments) row ≡ tabulate 19 (λ p. pinCode (pinAt x d font14 font16 p))
   pins-lit segments r row hs bright e es er =
-      rw (er, e) (tabulate-ext 19 _ _ (λ p hp. row-pin k d p segments hd hp hs ∙ ap pinNumber (read p hp ∙ chosen p ∙ pin-at p hp)))
+      rw (er, e) (tabulate-ext 19 _ _ (λ p hp. row-pin k d p segments hd hp hs ∙ ap pinCode (read p hp ∙ chosen p ∙ pin-at p hp)))
     where
       read : (p : ℕ) → p < 19 → pinBy segments (wireEntry (wireAt k d p)) ≡ by-table p
       read p hp = rw (es, lt-ltb d 8 hd, lt-ltb p 19 hp)
@@ -127,9 +127,9 @@ pub pin-by-pin : PinByPin
 pin-by-pin x d font14 font16 p first-byte second-byte words14 words16 hd hp = table-pin x d font14 font16 first-byte second-byte words14 words16 hd p hp
 
 -- the pins of a dark cathode
-pub pins-dark : (x : Device) (d : ℕ) (font14 font16 : List ℕ) → dark x d ≡ true → tabulate 19 (λ p. 0) ≡ tabulate 19 (λ p. pinNumber (pinAt x d font14 font16 p))
+pub pins-dark : (x : Device) (d : ℕ) (font14 font16 : List ℕ) → dark x d ≡ true → tabulate 19 (λ p. 0) ≡ tabulate 19 (λ p. pinCode (pinAt x d font14 font16 p))
 pins-dark x d font14 font16 e = tabulate-ext 19 _ _ (λ p hp. rw e)
 
 -- a call that is not refused names a cathode
-pub cathode-lt : (d : ℕ) (font14 font16 : List ℕ) → segmentsNumber d font14 font16 ≡ 0 → d < 8
+pub cathode-lt : (d : ℕ) (font14 font16 : List ℕ) → segmentsRefusal d font14 font16 ≡ 0 → d < 8
 cathode-lt d font14 font16 e = ltb-true d 8 (passed (ltb d 8) _ 5 e .0)

@@ -12,7 +12,7 @@ use Rattle.wiring.specs.Wiring.{Segment, glyph, point, first, cathode, notDrive
 use Rattle.wiring.specs.Table.{wireEntry}
 use Rattle.brightness.specs.Brightness.{brightnessOf}
 use Rattle.display.specs.Cathode.{displayOf}
-use Rattle.display.specs.Pins.{pinNumber, pinAt}
+use Rattle.display.specs.Pins.{pinCode, pinAt}
 use Rattle.display.specs.declared.Pin.the-variants.{NotDriven, Cathode, Lit, Unlit, NoSegment}
 
 -- what pins carry for a cathode, by number
@@ -21,7 +21,7 @@ wiresOf x d pins = map (λ p. wireEntry (wireAt (displayOf x d) d p)) pins
 
 -- pins of a 7-segment pair, by number; it uses no glyph table
 abbrev pub pinsOf : Device → ℕ → List ℕ → List ℕ
-pinsOf x d pins = map (λ p. pinNumber (pinAt x d [] [] p)) pins
+pinsOf x d pins = map (λ p. pinCode (pinAt x d [] [] p)) pins
 
 -- the number of a segment in the wiring table
 abbrev pub segment : Segment → ℕ
@@ -29,7 +29,7 @@ segment s = wireEntry (carries s)
 
 -- whether each cathode's own pin is driven
 abbrev pub pinsAtOwn : Device → List ℕ → List ℕ
-pinsAtOwn x ds = map (λ d. pinNumber (pinAt x d [] [] d)) ds
+pinsAtOwn x ds = map (λ d. pinCode (pinAt x d [] [] d)) ds
 
 -- "Bench examples"
 abbrev pub rows : List (List ℕ × List ℕ)
@@ -40,7 +40,7 @@ rows =
     -- 7: hex mode, byte 8A at digit 0: dp a b c e f g lit (O7 O2 O4 O5 O8 O9 O10), d unlit (O6)
     ∷ (
       pinsOf (taken (taken powerUp 0x0401) 0x208A) 0 (7 ∷ 2 ∷ 4 ∷ 5 ∷ 8 ∷ 9 ∷ 10 ∷ 6 ∷ []),
-      map pinNumber (Lit ∷ Lit ∷ Lit ∷ Lit ∷ Lit ∷ Lit ∷ Lit ∷ Unlit ∷ []),
+      map pinCode (Lit ∷ Lit ∷ Lit ∷ Lit ∷ Lit ∷ Lit ∷ Lit ∷ Unlit ∷ []),
     )
     -- 10: 16-segment, cathode 2: O0 a1, O1 a2, O2 cathode, O3 not driven, O4 b, O18 dp
     ∷ (
@@ -58,11 +58,11 @@ rows =
 abbrev pub segmentRows : List (List ℕ × List ℕ)
 segmentRows =
     -- in shutdown, and above a scan limit of 3, a cathode is dark; in test none is
-    (pinsAtOwn powerUp (0 ∷ 7 ∷ []), map pinNumber (NotDriven ∷ NotDriven ∷ []))
-    ∷ (pinsAtOwn (after powerUp (0x0401 ∷ 0x0303 ∷ [])) (0 ∷ 3 ∷ 4 ∷ 7 ∷ []), map pinNumber (Cathode ∷ Cathode ∷ NotDriven ∷ NotDriven ∷ []))
-    ∷ (pinsAtOwn (after powerUp (0x0701 ∷ 0x0303 ∷ [])) (0 ∷ 3 ∷ 4 ∷ 7 ∷ []), map pinNumber (Cathode ∷ Cathode ∷ Cathode ∷ Cathode ∷ []))
+    (pinsAtOwn powerUp (0 ∷ 7 ∷ []), map pinCode (NotDriven ∷ NotDriven ∷ []))
+    ∷ (pinsAtOwn (after powerUp (0x0401 ∷ 0x0303 ∷ [])) (0 ∷ 3 ∷ 4 ∷ 7 ∷ []), map pinCode (Cathode ∷ Cathode ∷ NotDriven ∷ NotDriven ∷ []))
+    ∷ (pinsAtOwn (after powerUp (0x0701 ∷ 0x0303 ∷ [])) (0 ∷ 3 ∷ 4 ∷ 7 ∷ []), map pinCode (Cathode ∷ Cathode ∷ Cathode ∷ Cathode ∷ []))
     -- test lights every segment of a 7-segment pair, of which O3 of cathode 0 carries none; 7 sixteenths, whatever the nibbles
-    ∷ (pinsOf (taken powerUp 0x0701) 0 (1 ∷ 2 ∷ 3 ∷ 4 ∷ 18 ∷ []), map pinNumber (NotDriven ∷ Lit ∷ NoSegment ∷ Lit ∷ Lit ∷ []))
+    ∷ (pinsOf (taken powerUp 0x0701) 0 (1 ∷ 2 ∷ 3 ∷ 4 ∷ 18 ∷ []), map pinCode (NotDriven ∷ Lit ∷ NoSegment ∷ Lit ∷ Lit ∷ []))
     ∷ (map (λ n. brightnessOf (after powerUp (0x0701 ∷ (0x0200 + n) ∷ [])) 0) (0x0 ∷ 0xF ∷ []), 7 ∷ 7 ∷ [])
     -- 0x13 holds digits 6 and 7, the odd one in the high nibble
     ∷ (map (λ i. brightnessOf (after powerUp (0x0441 ∷ 0x1321 ∷ [])) i) (5 ∷ 6 ∷ 7 ∷ 14 ∷ []), 1 ∷ 2 ∷ 3 ∷ 1 ∷ [])
@@ -70,13 +70,13 @@ segmentRows =
     ∷ (map (λ i. brightnessOf (after powerUp (0x020A ∷ 0x0300 ∷ [])) i) (0 ∷ 7 ∷ []), 11 ∷ 11 ∷ [])
     -- cathode 0 is 14-segment, under its own table: a word of bit 11 lights d, O6, alone
     ∷ (
-      map (λ p. pinNumber (pinAt (after powerUp (0x0401 ∷ 0x0C01 ∷ 0x2000 ∷ [])) 0 (0x0800 ∷ []) (0xF7FF ∷ []) p)) (2 ∷ 3 ∷ 6 ∷ 7 ∷ 18 ∷ []),
-      map pinNumber (Unlit ∷ NoSegment ∷ Lit ∷ NoSegment ∷ Unlit ∷ []),
+      map (λ p. pinCode (pinAt (after powerUp (0x0401 ∷ 0x0C01 ∷ 0x2000 ∷ [])) 0 (0x0800 ∷ []) (0xF7FF ∷ []) p)) (2 ∷ 3 ∷ 6 ∷ 7 ∷ 18 ∷ []),
+      map pinCode (Unlit ∷ NoSegment ∷ Lit ∷ NoSegment ∷ Unlit ∷ []),
     )
     -- and 16-segment under the other one, where no 7-segment pair is fitted
     ∷ (
-      map (λ p. pinNumber (pinAt (after (withFitted powerUp 0) (0x0401 ∷ 0x2000 ∷ [])) 0 (0x0800 ∷ []) (0xF7FF ∷ []) p)) (2 ∷ 3 ∷ 6 ∷ 7 ∷ 18 ∷ []),
-      map pinNumber (Lit ∷ Lit ∷ Unlit ∷ Lit ∷ Unlit ∷ []),
+      map (λ p. pinCode (pinAt (after (withFitted powerUp 0) (0x0401 ∷ 0x2000 ∷ [])) 0 (0x0800 ∷ []) (0xF7FF ∷ []) p)) (2 ∷ 3 ∷ 6 ∷ 7 ∷ 18 ∷ []),
+      map pinCode (Lit ∷ Lit ∷ Unlit ∷ Lit ∷ Unlit ∷ []),
     )
     ∷ []
 

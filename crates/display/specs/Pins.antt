@@ -16,12 +16,12 @@ use Rattle.display.specs.declared.Pin.the-variants.{NotDriven, Cathode, 
 use Rattle.display.specs.declared.SegmentAnswer.{SegmentAnswer}
 
 -- the number of each pin in an answer
-abbrev pub pinNumber : Pin → ℕ
-pinNumber NotDriven = 0
-pinNumber Cathode = 1
-pinNumber Lit = 2
-pinNumber Unlit = 3
-pinNumber NoSegment = 4
+abbrev pub pinCode : Pin → ℕ
+pinCode NotDriven = 0
+pinCode Cathode = 1
+pinCode Lit = 2
+pinCode Unlit = 3
+pinCode NoSegment = 4
 
 -- a pin by what it is to the cathode
 abbrev pub pinOf : (Segment → Bool) → Wire → Pin
@@ -35,14 +35,14 @@ pinAt x d font14 font16 p =
     if (dark x d) NotDriven (pinOf (lit x d font14 font16) (wireAt (displayOf x d) d p))
 
 -- 6 for a cathode above 7 or a glyph table not 128 long
-abbrev pub segmentsNumber : ℕ → List ℕ → List ℕ → ℕ
-segmentsNumber d font14 font16 =
+abbrev pub segmentsRefusal : ℕ → List ℕ → List ℕ → ℕ
+segmentsRefusal d font14 font16 =
     if (ltb d 8) (if (eqb (length font14) 128) (if (eqb (length font16) 128) 0 6) 6) 6
 
 -- the answer: its number, and the pins O0 to O18; where refused no pin is driven
 abbrev pub segmentsOf : Device → ℕ → List ℕ → List ℕ → SegmentAnswer
 segmentsOf x d font14 font16 =
     record {
-      number = segmentsNumber d font14 font16;
-      pins = tabulate 19 (λ p. pinNumber (if (eqb (segmentsNumber d font14 font16) 0) (pinAt x d font14 font16 p) NotDriven));
+      number = segmentsRefusal d font14 font16;
+      pins = tabulate 19 (λ p. pinCode (if (eqb (segmentsRefusal d font14 font16) 0) (pinAt x d font14 font16 p) NotDriven));
     }

@@ -7,7 +7,7 @@ ghost use Rattle.blink.specs.Part.{planePart};
 ghost use Rattle.device.specs.Steps.{shownPlane};
 ghost use Rattle.wiring.specs.PackedRows.{byteOf};
 ghost use Rattle.display.specs.Cathode.{displayBy};
-ghost use Rattle.display.specs.Pins.{pinNumber, segmentsNumber, pinAt, segmentsOf};
+ghost use Rattle.display.specs.Pins.{pinCode, segmentsRefusal, pinAt, segmentsOf};
 ghost use Rattle.display.specs.ByTable.{shownSegments, PinByPin};
 ghost use Rattle.display.specs.PackedPins.{ones, carriedBy, nonzeroBytes, eightPins, wordAt, pinsOf, pinsBy};
 ghost use Rattle.display.specs.Examples.{Examples};
@@ -28,7 +28,7 @@ pub enum Pin {
 impl Pin {
     // The number of a pin in an answer.
     pub fn number(self) -> u8
-        ensures { λ r. ⌜ r ≡ pinNumber self ⌝ }
+        ensures { λ r. ⌜ r ≡ pinCode self ⌝ }
     {
         match self {
             Pin::NotDriven => 0,
@@ -180,7 +180,7 @@ fn pins_by(unlit: u64, row: PackedRow) -> [u8; 19]
 // The pins of a cathode under two glyph tables.
 fn pins_shown(device: Device, cathode: usize, font14: &[u16], font16: &[u16]) -> [u8; 19]
     requires { ⌜ cathode < 8 ⌝ }
-    ensures { λ r. ⌜ r ≡ tabulate 19 (λ p. pinNumber (pinAt device cathode (now (font14 .entry)) (now (font16 .entry)) p)) ⌝ }
+    ensures { λ r. ⌜ r ≡ tabulate 19 (λ p. pinCode (pinAt device cathode (now (font14 .entry)) (now (font16 .entry)) p)) ⌝ }
 {
     if brightness::is_dark(device, cathode) {
         return [0; 19];
@@ -207,8 +207,8 @@ fn pins_shown(device: Device, cathode: usize, font14: &[u16], font16: &[u16]) ->
 }
 
 // 6 for a cathode above 7 or a glyph table not 128 long, else 0.
-pub fn segments_number(cathode: usize, font14: &[u16], font16: &[u16]) -> u8
-    ensures { λ r. ⌜ r ≡ segmentsNumber cathode (now (font14 .entry)) (now (font16 .entry)) ⌝ }
+pub fn segments_refusal(cathode: usize, font14: &[u16], font16: &[u16]) -> u8
+    ensures { λ r. ⌜ r ≡ segmentsRefusal cathode (now (font14 .entry)) (now (font16 .entry)) ⌝ }
 {
     if cathode < 8 {
         if font14.len() == 128 {
@@ -225,7 +225,7 @@ pub fn segments_number(cathode: usize, font14: &[u16], font16: &[u16]) -> u8
 pub fn segments(device: Device, cathode: usize, font14: &[u16], font16: &[u16]) -> SegmentAnswer
     ensures { λ r. ⌜ r ≡ segmentsOf device cathode (now (font14 .entry)) (now (font16 .entry)) ⌝ }
 {
-    let number = segments_number(cathode, font14, font16);
+    let number = segments_refusal(cathode, font14, font16);
     if number == 0 {
         let pins = pins_shown(device, cathode, font14, font16);
         SegmentAnswer {

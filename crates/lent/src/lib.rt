@@ -2,14 +2,14 @@
 ghost use mathlib.Core.Path.{_≡_};
 ghost use lib.ListN.{length, take};
 ghost use Rattle.calls.specs.Refusals.{allSound};
-ghost use Rattle.pass.specs.Found.{toPassIn, inRoom, found, callNumber};
+ghost use Rattle.pass.specs.Found.{toPassIn, inRoom, found, callRefusal};
 ghost use Rattle.pass.specs.OneByOne.{wordsTo, takenTo};
 use device::Device;
 use pass::Widths;
 
 // The number of a call that names a driver; own is that of what the driver is given or asked.
-pub fn call_number(chain: &[Device], driver: usize, own: u8) -> u8
-    ensures { λ r. ⌜ r ≡ callNumber (now (chain .entry)) driver own ⌝ }
+pub fn call_refusal(chain: &[Device], driver: usize, own: u8) -> u8
+    ensures { λ r. ⌜ r ≡ callRefusal (now (chain .entry)) driver own ⌝ }
 {
     let n = chain.len();
     let first = pass::by_arguments(n, driver, own);

@@ -16,14 +16,14 @@ use Rattle.ground.specs.Choice.{if}
 use Rattle.ground.specs.Lists.{tabulate}
 use Rattle.ground.proofs.Lists.{length-tabulate, getD-tabulate, tabulate-ext}
 use Rattle.wire.specs.Bits.{bytesFor}
-use Rattle.wire.specs.Shift.{sizeNumber, fits, wordsAfter, roomAfter}
+use Rattle.wire.specs.Shift.{sizeRefusal, fits, wordsAfter, roomAfter}
 use Rattle.wire.specs.Wire.{answer, shifted}
 use Rattle.wire.proofs.WholeLaws.{length-shifted}
 use Rattle.device.specs.PowerUp.{powerUp}
 use Rattle.device.specs.Taken.{taken}
 use Rattle.device.specs.declared.Device.{Device}
 use Rattle.calls.specs.Calls.{access}
-use Rattle.calls.specs.Refusals.{chainNumber, soundNumber, allSound}
+use Rattle.calls.specs.Refusals.{chainRefusal, soundRefusal, allSound}
 use Rattle.calls.specs.Served.{shiftWords, allTaken}
 use Rattle.calls.specs.Outcome.{number, after, reply, outcome}
 use Rattle.calls.proofs.Accepted.{first-zero}
@@ -49,10 +49,10 @@ module _ (ds : List Device) (c : ℕ) (sent room : List ℕ) where
   nr = found first (allSound (take m ds))
 
   -- no number yet: the chain is short enough, and the clocks and bytes fit
-  no-first : first ≡ 0 → (chainNumber n ≡ 0) × (sizeNumber c (length sent) (length room) ≡ 0)
+  no-first : first ≡ 0 → (chainRefusal n ≡ 0) × (sizeRefusal c (length sent) (length room) ≡ 0)
   no-first z =
-      let a = first-zero (chainNumber n) (sizeNumber c (length sent) (length room) ∷ []) z in
-      (a .0, first-zero (sizeNumber c (length sent) (length room)) [] (a .1) .0)
+      let a = first-zero (chainRefusal n) (sizeRefusal c (length sent) (length room) ∷ []) z in
+      (a .0, first-zero (sizeRefusal c (length sent) (length room)) [] (a .1) .0)
 
   short : first ≡ 0 → n ≤ 16
   short z = chain-long n (no-first z .0)
@@ -62,12 +62,12 @@ module _ (ds : List Device) (c : ℕ) (sent room : List ℕ) where
 
   pub access-number : nr ≡ number (access c sent room) ds
   unfolding number
-  access-number = go (eqb first 0) refl ∙ found-last (chainNumber n ∷ sizeNumber c (length sent) (length room) ∷ []) (soundNumber (allSound ds))
+  access-number = go (eqb first 0) refl ∙ found-last (chainRefusal n ∷ sizeRefusal c (length sent) (length room) ∷ []) (soundRefusal (allSound ds))
     where
-      go : (b : Bool) → eqb first 0 ≡ b → if b (soundNumber (allSound (take m ds))) first ≡ if b (soundNumber (allSound ds)) first
+      go : (b : Bool) → eqb first 0 ≡ b → if b (soundRefusal (allSound (take m ds))) first ≡ if b (soundRefusal (allSound ds)) first
       go true e =
           let whole : take m ds ≡ ds = ap (λ (k : ℕ). take k ds) (all-passed (eqb-true first 0 e)) ∙ take-length ds in
-          ap (λ (xs : List Device). soundNumber (allSound xs)) whole
+          ap (λ (xs : List Device). soundRefusal (allSound xs)) whole
       go false e = refl
 
   pub access-refused : (nr ≡ 0 → ⊥) → outcome (access c sent room) ds ≡ record { number = nr; records = ds; back = room }
@@ -78,7 +78,7 @@ module _ (ds : List Device) (c : ℕ) (sent room : List ℕ) where
     first-is-zero : first ≡ 0
     first-is-zero = go (eqb first 0) refl z
       where
-        go : (b : Bool) → eqb first 0 ≡ b → if b (soundNumber (allSound (take m ds))) first ≡ 0 → first ≡ 0
+        go : (b : Bool) → eqb first 0 ≡ b → if b (soundRefusal (allSound (take m ds))) first ≡ 0 → first ≡ 0
         go true e q = eqb-true first 0 e
         go false e q = q
 
@@ -88,7 +88,7 @@ module _ (ds : List Device) (c : ℕ) (sent room : List ℕ) where
     -- the wire serves it
     wire-fits : fits (wordsTo ds zeros m) n c sent room ≡ true
     wire-fits =
-        go (leb n 16) (leb n (length (wordsTo ds zeros m))) (eqb (sizeNumber c (length sent) (length room)) 0)
+        go (leb n 16) (leb n (length (wordsTo ds zeros m))) (eqb (sizeRefusal c (length sent) (length room)) 0)
         (le-leb n 16 (short first-is-zero)) (le-leb n (length (wordsTo ds zeros m)) (omega (arith, length-words-to, short first-is-zero))) (eq-eqb _ 0 (no-first first-is-zero .1))
       where
         go : (a b c : Bool) → a ≡ true → b ≡ true → c ≡ true → a && b && c ≡ true

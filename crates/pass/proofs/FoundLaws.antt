@@ -1,7 +1,7 @@
 -- The number as it is found is the number of the call, and the outcome of a call that names a driver by it.
 --     found-last                                   a number found after others
 --     pass-below, pass-le, pass-in-below, pass-in-le, in-room-below, in-room-le     a record that is passed is one of the chain
---     call-found                                   the number found is `callNumber`
+--     call-found                                   the number found is `callRefusal`
 --     in-range, own-zero                           what a number of 0 tells of the driver and the argument
 --     give-served, give-refused, ask-served, ask-refused       the outcome
 -- Assumes nothing.
@@ -19,11 +19,11 @@ use Rattle.ground.proofs.Truth.{passed, and-right}
 use Rattle.device.specs.PowerUp.{powerUp}
 use Rattle.device.specs.declared.Device.{Device}
 use Rattle.calls.specs.Calls.{Step, Question, give, ask}
-use Rattle.calls.specs.Refusals.{chainNumber, driverNumber, stepNumber, questionNumber, soundNumber, allSound, firstOf}
+use Rattle.calls.specs.Refusals.{chainRefusal, driverRefusal, stepRefusal, questionRefusal, soundRefusal, allSound, firstOf}
 use Rattle.calls.specs.Served.{stepped, answerTo, refusedTo}
 use Rattle.calls.specs.Outcome.{number, after, reply, outcome}
 use Rattle.calls.proofs.Accepted.{first-zero, driver-there}
-use Rattle.pass.specs.Found.{byArguments, toPass, toPassIn, inRoom, found, callNumber}
+use Rattle.pass.specs.Found.{byArguments, toPass, toPassIn, inRoom, found, callRefusal}
 
 -- the last number of a list needs no test
 pub first-last : (k : ℕ) → firstOf (k ∷ []) ≡ k
@@ -89,7 +89,7 @@ in-room-le n w = go (leb n w)
     go false = omega arith
 
 -- 1 isn't given: the chain isn't too long
-pub chain-long : (n : ℕ) → chainNumber n ≡ 0 → n ≤ 16
+pub chain-long : (n : ℕ) → chainRefusal n ≡ 0 → n ≤ 16
 chain-long n e = omega (arith, ltb-true n 17 (and-right (ltb 0 n) (ltb n 17) (passed (ltb 0 n && ltb n 17) 0 0 e .0)))
 
 -- ---- the number found
@@ -100,42 +100,42 @@ module _ (ds : List Device) (driver own : ℕ) where
   abbrev first : ℕ
   first = byArguments n driver own
 
-  pub call-found : found first (allSound (take (toPass first n) ds)) ≡ callNumber ds driver own
-  call-found = go (eqb first 0) ∙ found-last (chainNumber n ∷ driverNumber n driver ∷ own ∷ []) (soundNumber (allSound ds))
+  pub call-found : found first (allSound (take (toPass first n) ds)) ≡ callRefusal ds driver own
+  call-found = go (eqb first 0) ∙ found-last (chainRefusal n ∷ driverRefusal n driver ∷ own ∷ []) (soundRefusal (allSound ds))
     where
-      go : (b : Bool) → if b (soundNumber (allSound (take (if b n 0) ds))) first ≡ if b (soundNumber (allSound ds)) first
-      go true = ap (λ (xs : List Device). soundNumber (allSound xs)) (take-length ds)
+      go : (b : Bool) → if b (soundRefusal (allSound (take (if b n 0) ds))) first ≡ if b (soundRefusal (allSound ds)) first
+      go true = ap (λ (xs : List Device). soundRefusal (allSound xs)) (take-length ds)
       go false = refl
 
   -- the numbers after the first are 0
-  later : callNumber ds driver own ≡ 0 → (driverNumber n driver ≡ 0) × (firstOf (own ∷ soundNumber (allSound ds) ∷ []) ≡ 0)
-  later z = first-zero (driverNumber n driver) (own ∷ soundNumber (allSound ds) ∷ []) (first-zero (chainNumber n) (driverNumber n driver ∷ own ∷ soundNumber (allSound ds) ∷ []) z .1)
+  later : callRefusal ds driver own ≡ 0 → (driverRefusal n driver ≡ 0) × (firstOf (own ∷ soundRefusal (allSound ds) ∷ []) ≡ 0)
+  later z = first-zero (driverRefusal n driver) (own ∷ soundRefusal (allSound ds) ∷ []) (first-zero (chainRefusal n) (driverRefusal n driver ∷ own ∷ soundRefusal (allSound ds) ∷ []) z .1)
 
-  pub own-zero : callNumber ds driver own ≡ 0 → own ≡ 0
-  own-zero z = first-zero own (soundNumber (allSound ds) ∷ []) (later z .1) .0
+  pub own-zero : callRefusal ds driver own ≡ 0 → own ≡ 0
+  own-zero z = first-zero own (soundRefusal (allSound ds) ∷ []) (later z .1) .0
 
-  pub in-range : callNumber ds driver own ≡ 0 → (1 ≤ driver) × (driver ≤ n)
+  pub in-range : callRefusal ds driver own ≡ 0 → (1 ≤ driver) × (driver ≤ n)
   in-range z = driver-there n driver (later z .0)
 
 -- ---- the outcome
 module _ (ds : List Device) (j : ℕ) (st : Step) where
-  pub give-served : callNumber ds j (stepNumber st) ≡ 0
-      → outcome (give j st) ds ≡ record { number = callNumber ds j (stepNumber st); records = set ds (j - 1) (stepped st (getD ds (j - 1) powerUp)); back = [] }
+  pub give-served : callRefusal ds j (stepRefusal st) ≡ 0
+      → outcome (give j st) ds ≡ record { number = callRefusal ds j (stepRefusal st); records = set ds (j - 1) (stepped st (getD ds (j - 1) powerUp)); back = [] }
   unfolding number after reply
   give-served z = rw z
 
-  pub give-refused : (callNumber ds j (stepNumber st) ≡ 0 → ⊥)
-      → outcome (give j st) ds ≡ record { number = callNumber ds j (stepNumber st); records = ds; back = [] }
+  pub give-refused : (callRefusal ds j (stepRefusal st) ≡ 0 → ⊥)
+      → outcome (give j st) ds ≡ record { number = callRefusal ds j (stepRefusal st); records = ds; back = [] }
   unfolding number after reply
-  give-refused z = rw (ne-eqb (callNumber ds j (stepNumber st)) 0 z)
+  give-refused z = rw (ne-eqb (callRefusal ds j (stepRefusal st)) 0 z)
 
 module _ (ds : List Device) (j : ℕ) (q : Question) where
-  pub ask-served : callNumber ds j (questionNumber q) ≡ 0
+  pub ask-served : callRefusal ds j (questionRefusal q) ≡ 0
       → outcome (ask j q) ds ≡ record { number = 0; records = ds; back = answerTo q (getD ds (j - 1) powerUp) }
   unfolding number after reply
   ask-served z = rw z
 
-  pub ask-refused : (callNumber ds j (questionNumber q) ≡ 0 → ⊥)
-      → outcome (ask j q) ds ≡ record { number = callNumber ds j (questionNumber q); records = ds; back = refusedTo q }
+  pub ask-refused : (callRefusal ds j (questionRefusal q) ≡ 0 → ⊥)
+      → outcome (ask j q) ds ≡ record { number = callRefusal ds j (questionRefusal q); records = ds; back = refusedTo q }
   unfolding number after reply
-  ask-refused z = rw (ne-eqb (callNumber ds j (questionNumber q)) 0 z)
+  ask-refused z = rw (ne-eqb (callRefusal ds j (questionRefusal q)) 0 z)

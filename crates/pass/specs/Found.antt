@@ -6,17 +6,17 @@ use mathlib.Core.List.{List, [], _∷_}
 use lib.Dec.{eqb, leb}
 use lib.ListN.{length}
 use Rattle.ground.specs.Choice.{if}
-use Rattle.wire.specs.Shift.{sizeNumber}
+use Rattle.wire.specs.Shift.{sizeRefusal}
 use Rattle.device.specs.declared.Device.{Device}
-use Rattle.calls.specs.Refusals.{chainNumber, driverNumber, soundNumber, allSound, firstOf}
+use Rattle.calls.specs.Refusals.{chainRefusal, driverRefusal, soundRefusal, allSound, firstOf}
 
 -- the number of a call that names a driver, by its arguments; own is that of what the driver is given or asked
 abbrev pub byArguments : ℕ → ℕ → ℕ → ℕ
-byArguments n driver own = firstOf (chainNumber n ∷ driverNumber n driver ∷ own ∷ [])
+byArguments n driver own = firstOf (chainRefusal n ∷ driverRefusal n driver ∷ own ∷ [])
 
 -- the number of an access, by its arguments
 abbrev pub accessByArguments : ℕ → ℕ → ℕ → ℕ → ℕ
-accessByArguments n c sent room = firstOf (chainNumber n ∷ sizeNumber c sent room ∷ [])
+accessByArguments n c sent room = firstOf (chainRefusal n ∷ sizeRefusal c sent room ∷ [])
 
 -- how many of n records are passed over: none where the number is known
 abbrev pub toPass : ℕ → ℕ → ℕ
@@ -32,8 +32,8 @@ inRoom n w = if (leb n w) n 0
 
 -- the number once they are passed, and are sound or not
 abbrev pub found : ℕ → Bool → ℕ
-found first sound = if (eqb first 0) (soundNumber sound) first
+found first sound = if (eqb first 0) (soundRefusal sound) first
 
 -- the number of a call on a chain that names a driver
-abbrev pub callNumber : List Device → ℕ → ℕ → ℕ
-callNumber ds driver own = firstOf (chainNumber (length ds) ∷ driverNumber (length ds) driver ∷ own ∷ soundNumber (allSound ds) ∷ [])
+abbrev pub callRefusal : List Device → ℕ → ℕ → ℕ
+callRefusal ds driver own = firstOf (chainRefusal (length ds) ∷ driverRefusal (length ds) driver ∷ own ∷ soundRefusal (allSound ds) ∷ [])

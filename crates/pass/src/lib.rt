@@ -3,7 +3,7 @@ ghost use mathlib.Core.Path.{_≡_};
 ghost use lib.Dec.{eqb};
 ghost use Rattle.ground.specs.Choice.{if};
 ghost use Rattle.calls.specs.Calls.{scan, levels as pinLevels, clocks as masterClocks, plane, brightness, shown, interrupt};
-ghost use Rattle.calls.specs.Refusals.{chainNumber, driverNumber, stepNumber, soundNumber, questionNumber};
+ghost use Rattle.calls.specs.Refusals.{chainRefusal, driverRefusal, stepRefusal, soundRefusal, questionRefusal};
 ghost use Rattle.pass.specs.Widths.{eightBytes, twoBytes, greater, noWidths, widthsWith, fit};
 ghost use Rattle.pass.specs.Found.{byArguments, accessByArguments, toPass, toPassIn, inRoom, found};
 use device::Device;
@@ -113,22 +113,22 @@ fn first_of(a: u8, b: u8) -> u8
 }
 
 // 1: the chain has 0 or more than 16 records.
-fn chain_number(n: usize) -> u8
-    ensures { λ r. ⌜ r ≡ chainNumber n ⌝ }
+fn chain_refusal(n: usize) -> u8
+    ensures { λ r. ⌜ r ≡ chainRefusal n ⌝ }
 {
     if (0 < n) & (n < 17) { 0 } else { 1 }
 }
 
 // 2: driver number not in 1..n.
-fn driver_number(n: usize, driver: usize) -> u8
-    ensures { λ r. ⌜ r ≡ driverNumber n driver ⌝ }
+fn driver_refusal(n: usize, driver: usize) -> u8
+    ensures { λ r. ⌜ r ≡ driverRefusal n driver ⌝ }
 {
     if (0 < driver) & (driver <= n) { 0 } else { 2 }
 }
 
 // 7: some record isn't sound.
-fn sound_number(sound: bool) -> u8
-    ensures { λ r. ⌜ r ≡ soundNumber sound ⌝ }
+fn sound_refusal(sound: bool) -> u8
+    ensures { λ r. ⌜ r ≡ soundRefusal sound ⌝ }
 {
     if sound { 0 } else { 7 }
 }
@@ -137,15 +137,15 @@ fn sound_number(sound: bool) -> u8
 pub fn by_arguments(n: usize, driver: usize, own: u8) -> u8
     ensures { λ r. ⌜ r ≡ byArguments n driver own ⌝ }
 {
-    let later = first_of(driver_number(n, driver), own);
-    first_of(chain_number(n), later)
+    let later = first_of(driver_refusal(n, driver), own);
+    first_of(chain_refusal(n), later)
 }
 
 // The number of an access, by its arguments.
 pub fn access_by_arguments(n: usize, clocks: usize, sent: usize, room: usize) -> u8
     ensures { λ r. ⌜ r ≡ accessByArguments n clocks sent room ⌝ }
 {
-    first_of(chain_number(n), wire::size_number(clocks, sent, room))
+    first_of(chain_refusal(n), wire::size_refusal(clocks, sent, room))
 }
 
 // How many records are passed over: none where the number is known.
@@ -176,54 +176,54 @@ pub fn found(first: u8, widths: Widths) -> u8
     if first != 0 {
         return first;
     }
-    sound_number(widths.fit())
+    sound_refusal(widths.fit())
 }
 
 // No keys that a scan could give are refused.
-pub fn scan_number(a: u8, b: u8, c: u8, d: u8) -> u8
-    ensures { λ r. ⌜ r ≡ stepNumber (scan a b c d) ⌝ }
+pub fn scan_refusal(a: u8, b: u8, c: u8, d: u8) -> u8
+    ensures { λ r. ⌜ r ≡ stepRefusal (scan a b c d) ⌝ }
 {
     0
 }
 
 // 6: pin levels above 31.
-pub fn levels_number(levels: u32) -> u8
-    ensures { λ r. ⌜ r ≡ stepNumber (pinLevels levels) ⌝ }
+pub fn levels_refusal(levels: u32) -> u8
+    ensures { λ r. ⌜ r ≡ stepRefusal (pinLevels levels) ⌝ }
 {
     if 31 < levels { 6 } else { 0 }
 }
 
 // No clocks are refused.
-pub fn clocks_number(clocks: u32) -> u8
-    ensures { λ r. ⌜ r ≡ stepNumber (masterClocks clocks) ⌝ }
+pub fn clocks_refusal(clocks: u32) -> u8
+    ensures { λ r. ⌜ r ≡ stepRefusal (masterClocks clocks) ⌝ }
 {
     0
 }
 
 // 6: a lent plane not 16 long, a digit above 15, or a last digit below the first.
-pub fn plane_number<'a>(p0: &'a [u8], p1: &'a [u8], first: usize, last: usize) -> u8
-    ensures { λ r. ⌜ r ≡ questionNumber (plane (now (p0 .entry)) (now (p1 .entry)) first last) ⌝ }
+pub fn plane_refusal<'a>(p0: &'a [u8], p1: &'a [u8], first: usize, last: usize) -> u8
+    ensures { λ r. ⌜ r ≡ questionRefusal (plane (now (p0 .entry)) (now (p1 .entry)) first last) ⌝ }
 {
-    blink::plane_number(p0, p1, first, last)
+    blink::plane_refusal(p0, p1, first, last)
 }
 
 // 6: a digit above 15.
-pub fn brightness_number(digit: usize) -> u8
-    ensures { λ r. ⌜ r ≡ questionNumber (brightness digit) ⌝ }
+pub fn brightness_refusal(digit: usize) -> u8
+    ensures { λ r. ⌜ r ≡ questionRefusal (brightness digit) ⌝ }
 {
     if digit < 16 { 0 } else { 6 }
 }
 
 // Every driver may be asked for the plane shown.
-pub fn shown_number() -> u8
-    ensures { λ r. ⌜ r ≡ questionNumber shown ⌝ }
+pub fn shown_refusal() -> u8
+    ensures { λ r. ⌜ r ≡ questionRefusal shown ⌝ }
 {
     0
 }
 
 // And for its interrupt.
-pub fn interrupt_number() -> u8
-    ensures { λ r. ⌜ r ≡ questionNumber interrupt ⌝ }
+pub fn interrupt_refusal() -> u8
+    ensures { λ r. ⌜ r ≡ questionRefusal interrupt ⌝ }
 {
     0
 }

@@ -18,18 +18,18 @@ use borrow.Author.Tests.{ne-eqb}
 use Rattle.ground.specs.Choice.{if}
 use Rattle.ground.specs.Lists.{tabulate}
 use Rattle.ground.proofs.Lists.{tabulate-ext}
-use Rattle.wire.specs.Shift.{sizeNumber, wordsAfter, roomAfter}
+use Rattle.wire.specs.Shift.{sizeRefusal, wordsAfter, roomAfter}
 use Rattle.device.specs.PowerUp.{powerUp}
 use Rattle.device.specs.Taken.{taken}
 use Rattle.device.specs.declared.Device.{Device}
 use Rattle.display.specs.Pins.{segmentsOf}
 use Rattle.display.specs.declared.SegmentAnswer.{SegmentAnswer}
 use Rattle.calls.specs.Calls.{Step, Call, access, give, ask, segments}
-use Rattle.calls.specs.Refusals.{chainNumber, driverNumber, stepNumber, questionNumber, soundNumber, allSound}
+use Rattle.calls.specs.Refusals.{chainRefusal, driverRefusal, stepRefusal, questionRefusal, soundRefusal, allSound}
 use Rattle.calls.specs.Served.{stepped, refusedBack}
 use Rattle.calls.specs.Outcome.{number, after, reply, Outcome}
 use Rattle.calls.proofs.Accepted.{after-zero, reply-zero}
-use Rattle.pass.specs.Found.{byArguments, accessByArguments, toPass, found, callNumber}
+use Rattle.pass.specs.Found.{byArguments, accessByArguments, toPass, found, callRefusal}
 use Rattle.pass.specs.OneByOne.{wordsTo, takenTo}
 use Rattle.pass.proofs.FoundLaws.{found-last, in-range, own-zero}
 use Rattle.pass.proofs.AccessLaws.{access-number, access-whole}
@@ -69,7 +69,7 @@ module _ (r : Row) (sixteen : length (r .devices) ≡ 16) where
   length-long h = rw (take-all (r .n) (r .devices) (omega arith)) (sym sixteen)
 
   -- a driver that is named is one of the sixteen
-  pub in-row : (j own k : ℕ) → k ≡ callNumber (records r) j own → k ≡ 0 → (1 ≤ j) × (j ≤ 16)
+  pub in-row : (j own k : ℕ) → k ≡ callRefusal (records r) j own → k ≡ 0 → (1 ≤ j) × (j ≤ 16)
   in-row j own k e z =
       let h = in-range (records r) j own (sym e ∙ z) in
       (h .0, omega (arith, h .1, part-le (r .n) (r .devices)))
@@ -82,16 +82,16 @@ module _ (r : Row) (n : ℕ) (l : n ≡ length (records r)) where
   pub number-found : (first w : ℕ) (sound : Bool) → w ≡ toPass first n → sound ≡ allSound (take w (r .devices)) → found first sound ≡ found first (allSound ds)
   number-found first w sound p e = go (eqb first 0) (rw (p, l) at e)
     where
-      go : (b : Bool) → sound ≡ allSound (take (if b (length ds) 0) (r .devices)) → if b (soundNumber sound) first ≡ if b (soundNumber (allSound ds)) first
-      go true e = ap soundNumber (rw (part-take (r .n) (r .devices)) at e)
+      go : (b : Bool) → sound ≡ allSound (take (if b (length ds) 0) (r .devices)) → if b (soundRefusal sound) first ≡ if b (soundRefusal (allSound ds)) first
+      go true e = ap soundRefusal (rw (part-take (r .n) (r .devices)) at e)
       go false e = refl
 
-  pub call-found : (j own first : ℕ) → first ≡ byArguments n j own → found first (allSound ds) ≡ callNumber ds j own
-  call-found j own first e = rw (e, l) (found-last (chainNumber (length ds) ∷ driverNumber (length ds) j ∷ own ∷ []) (soundNumber (allSound ds)))
+  pub call-found : (j own first : ℕ) → first ≡ byArguments n j own → found first (allSound ds) ≡ callRefusal ds j own
+  call-found j own first e = rw (e, l) (found-last (chainRefusal (length ds) ∷ driverRefusal (length ds) j ∷ own ∷ []) (soundRefusal (allSound ds)))
 
   pub access-found : (c : ℕ) (sent room : List ℕ) (first : ℕ) → first ≡ accessByArguments n c (length sent) (length room) → found first (allSound ds) ≡ numberOn r (access c sent room)
   unfolding number
-  access-found c sent room first e = rw (e, l) (found-last (chainNumber (length ds) ∷ sizeNumber c (length sent) (length room) ∷ []) (soundNumber (allSound ds)))
+  access-found c sent room first e = rw (e, l) (found-last (chainRefusal (length ds) ∷ sizeRefusal c (length sent) (length room) ∷ []) (soundRefusal (allSound ds)))
 
 -- ---- a refused call of any kind
 module _ (r : Row) (q : Call) (k : ℕ) (e : k ≡ numberOn r q) (z : k ≡ 0 → ⊥) where
@@ -104,7 +104,7 @@ module _ (r : Row) (q : Call) (k : ℕ) (e : k ≡ numberOn r q) (z : k ≡ 0 �
   refused-reply = rw (← e, ne-eqb k 0 z)
 
 -- ---- a call that gives a driver something
-module _ (r : Row) (j : ℕ) (st : Step) (own k : ℕ) (o : own ≡ stepNumber st) (e : k ≡ callNumber (records r) j own) where
+module _ (r : Row) (j : ℕ) (st : Step) (own k : ℕ) (o : own ≡ stepRefusal st) (e : k ≡ callRefusal (records r) j own) where
   give-number : k ≡ numberOn r (give j st)
   unfolding number
   give-number = e ∙ rw o
@@ -119,7 +119,7 @@ module _ (r : Row) (j : ℕ) (st : Step) (own k : ℕ) (o : own ≡ stepNumber s
       rw (after-zero (give j st) (records r) t, t, part-set (r .n) (r .devices) (j - 1) (stepped st) powerUp (omega (arith, h)))
 
 -- ---- what a cathode shows
-module _ (r : Row) (j d : ℕ) (font14 font16 : List ℕ) (own k : ℕ) (o : own ≡ questionNumber (segments d font14 font16)) (e : k ≡ callNumber (records r) j own) where
+module _ (r : Row) (j d : ℕ) (font14 font16 : List ℕ) (own k : ℕ) (o : own ≡ questionRefusal (segments d font14 font16)) (e : k ≡ callRefusal (records r) j own) where
   abbrev q : Call
   q = ask j (segments d font14 font16)
 
@@ -138,7 +138,7 @@ module _ (r : Row) (j d : ℕ) (font14 font16 : List ℕ) (own k : ℕ) (o : own
   show-done z =
       let t : numberOn r q ≡ 0 = sym ask-number ∙ z in
       let h = in-range (records r) j own (sym e ∙ z) in
-      let zero-own : questionNumber (segments d font14 font16) ≡ 0 = sym o ∙ own-zero (records r) j own (sym e ∙ z) in
+      let zero-own : questionRefusal (segments d font14 font16) ≡ 0 = sym o ∙ own-zero (records r) j own (sym e ∙ z) in
       let pins : replyOn r q ≡ segmentsOf (getD (r .devices) (j - 1) powerUp) d font14 font16 .pins =
       reply-zero q (records r) t ∙ ap (λ x. segmentsOf x d font14 font16 .pins) (sym (part-get (r .n) (r .devices) (j - 1) powerUp (omega (arith, h)))) in
       rw (pins, t) (ap (λ n. record { number = n; pins = segmentsOf (getD (r .devices) (j - 1) powerUp) d font14 font16 .pins }) zero-own)

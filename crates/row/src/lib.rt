@@ -6,7 +6,7 @@ ghost use Rattle.device.specs.PowerUp.{powerUp};
 ghost use Rattle.calls.specs.Calls.{access as accessCall, give, ask, scan as scanStep, levels as levelsStep, clocks as clocksStep, segments as segmentsQuestion};
 ghost use Rattle.calls.specs.Refusals.{allSound};
 ghost use Rattle.pass.specs.Widths.{fit};
-ghost use Rattle.pass.specs.Found.{found, callNumber};
+ghost use Rattle.pass.specs.Found.{found, callRefusal};
 ghost use Rattle.pass.specs.OneByOne.{wordsTo, takenTo};
 ghost use Rattle.row.specs.Row.{fresh, records, numberOn, replyOn, doneOn};
 use device::Device;
@@ -70,7 +70,7 @@ impl Row {
 
     // The number of a call that names a driver; own is that of what the driver is given or asked. Where it is 0 the driver is one of the sixteen.
     fn number(self, driver: usize, own: u8) -> u8
-        ensures { λ r. ⌜ (r ≡ callNumber (records self) driver own) × (r ≡ 0 → (1 ≤ driver) × (driver ≤ 16)) ⌝ }
+        ensures { λ r. ⌜ (r ≡ callRefusal (records self) driver own) × (r ≡ 0 → (1 ≤ driver) × (driver ≤ 16)) ⌝ }
     {
         let n = self.length();
         self.found(pass::by_arguments(n, driver, own))
@@ -111,7 +111,7 @@ impl Row {
     pub fn scan(self, driver: usize, a: u8, b: u8, c: u8, d: u8) -> Done
         ensures { λ r. ⌜ r ≡ doneOn self (give driver (scanStep a b c d)) ⌝ }
     {
-        let number = self.number(driver, pass::scan_number(a, b, c, d));
+        let number = self.number(driver, pass::scan_refusal(a, b, c, d));
         if number != 0 {
             return self.refused(number);
         }
@@ -123,7 +123,7 @@ impl Row {
     pub fn set_pins(self, driver: usize, levels: u32) -> Done
         ensures { λ r. ⌜ r ≡ doneOn self (give driver (levelsStep levels)) ⌝ }
     {
-        let number = self.number(driver, pass::levels_number(levels));
+        let number = self.number(driver, pass::levels_refusal(levels));
         if number != 0 {
             return self.refused(number);
         }
@@ -135,7 +135,7 @@ impl Row {
     pub fn add_clocks(self, driver: usize, clocks: u32) -> Done
         ensures { λ r. ⌜ r ≡ doneOn self (give driver (clocksStep clocks)) ⌝ }
     {
-        let number = self.number(driver, pass::clocks_number(clocks));
+        let number = self.number(driver, pass::clocks_refusal(clocks));
         if number != 0 {
             return self.refused(number);
         }
@@ -200,7 +200,7 @@ impl Row {
     ) -> SegmentAnswer
         ensures { λ r. ⌜ r ≡ record { number = numberOn self (ask driver (segmentsQuestion cathode (now (font14 .entry)) (now (font16 .entry)))); pins = replyOn self (ask driver (segmentsQuestion cathode (now (font14 .entry)) (now (font16 .entry)))) } ⌝ }
     {
-        let own = display::segments_number(cathode, font14, font16);
+        let own = display::segments_refusal(cathode, font14, font16);
         let number = self.number(driver, own);
         if number != 0 {
             return SegmentAnswer {

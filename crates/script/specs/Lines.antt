@@ -7,7 +7,7 @@ use lib.Dec.{eqb, ltb}
 use lib.ListN.{take}
 use Rattle.ground.specs.Choice.{if}
 use Rattle.wire.specs.Bits.{bytesFor}
-use Rattle.display.specs.Pins.{pinNumber}
+use Rattle.display.specs.Pins.{pinCode}
 use Rattle.display.specs.declared.Pin.the-variants.{Cathode, Lit, Unlit}
 use Rattle.calls.specs.Calls.{Call, access, give, ask}
 
@@ -43,7 +43,7 @@ answerLine (b ∷ bs) = 65 ∷ 32 ∷ each hexByte (b ∷ bs) ++ 10 ∷ []
 
 -- a pin's letter: `C` cathode, `1` lit, `0` unlit, `-` not driven or carrying none
 abbrev pub letter : ℕ → ℕ
-letter p = if (eqb p (pinNumber Cathode)) 67 (if (eqb p (pinNumber Lit)) 49 (if (eqb p (pinNumber Unlit)) 48 45))
+letter p = if (eqb p (pinCode Cathode)) 67 (if (eqb p (pinCode Lit)) 49 (if (eqb p (pinCode Unlit)) 48 45))
 
 -- the same, as a text
 abbrev pub pinText : ℕ → List ℕ

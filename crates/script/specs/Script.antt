@@ -8,7 +8,7 @@ use Rattle.ground.specs.Choice.{if}
 use Rattle.device.specs.PowerUp.{powerUp}
 use Rattle.device.specs.declared.Device.{Device}
 use Rattle.calls.specs.Calls.{Call}
-use Rattle.calls.specs.Refusals.{chainNumber}
+use Rattle.calls.specs.Refusals.{chainRefusal}
 use Rattle.calls.specs.Outcome.{number, after, reply}
 use Rattle.script.specs.Lines.{chainLine, refusalLine, lineFor}
 use Rattle.script.specs.Format.{Item, chain, call, malformed, items}
@@ -49,9 +49,9 @@ othersIn (malformed ∷ is) = malformed ∷ is
 -- `chain n` and what the other records print; a chain record refused with 1 precludes the first line, and the run stops
 abbrev pub itemsPrinted : List Item → List ℕ
 itemsPrinted is =
-    if (eqb (chainNumber (chainIn is)) 0)
+    if (eqb (chainRefusal (chainIn is)) 0)
     (chainLine (chainIn is) ++ runLines (othersIn is) (freshChain (chainIn is)))
-    (refusalLine (chainNumber (chainIn is)))
+    (refusalLine (chainRefusal (chainIn is)))
 
 -- the longest script
 abbrev pub longest : ℕ

@@ -2,15 +2,15 @@
 -- Assumes nothing.
 use Prim.Native.Nat.{ℕ, _*_, _<_, _≤_}
 use mathlib.Core.Path.{_≡_}
-use Rattle.wire.specs.Shift.{sizeNumber}
+use Rattle.wire.specs.Shift.{sizeRefusal}
 
 -- the lowest that applies, for every access
 pub record Sizes : Type 0 where
   -- 3: more than 4,096 clocks
-  pub clocks : (c sent room : ℕ) → 4096 < c → sizeNumber c sent room ≡ 3
+  pub clocks : (c sent room : ℕ) → 4096 < c → sizeRefusal c sent room ≡ 3
   -- 4: sent bytes fewer than the clocks need
-  pub sent : (c sent room : ℕ) → c ≤ 4096 → 8 * sent < c → sizeNumber c sent room ≡ 4
+  pub sent : (c sent room : ℕ) → c ≤ 4096 → 8 * sent < c → sizeRefusal c sent room ≡ 4
   -- 5: room for answer bytes fewer than the clocks need
-  pub room : (c sent room : ℕ) → c ≤ 4096 → c ≤ 8 * sent → 8 * room < c → sizeNumber c sent room ≡ 5
+  pub room : (c sent room : ℕ) → c ≤ 4096 → c ≤ 8 * sent → 8 * room < c → sizeRefusal c sent room ≡ 5
   -- else none of the three
-  pub served : (c sent room : ℕ) → c ≤ 4096 → c ≤ 8 * sent → c ≤ 8 * room → sizeNumber c sent room ≡ 0
+  pub served : (c sent room : ℕ) → c ≤ 4096 → c ≤ 8 * sent → c ≤ 8 * room → sizeRefusal c sent room ≡ 0

@@ -5,7 +5,7 @@ ghost use Prim.Native.Nat.{_+_, _-_, _*_, _/_, _^_, _≤_, _<_};
 ghost use lib.ListN.{length, getD, take, drop};
 ghost use Rattle.wire.specs.Bits.{bits, value, unpack, pack, bytesFor};
 ghost use Rattle.wire.specs.Wire.{words, answer, shifted};
-ghost use Rattle.wire.specs.Shift.{sizeNumber, wordsAfter, roomAfter};
+ghost use Rattle.wire.specs.Shift.{sizeRefusal, wordsAfter, roomAfter};
 ghost use Rattle.wire.specs.Sizes.{Sizes};
 ghost use Rattle.wire.specs.Whole.{WholeAccess};
 ghost use Rattle.wire.specs.Line.{wordBytes};
@@ -97,8 +97,8 @@ fn clear_spare(clocks: usize, room: &mut [u8])
 }
 
 // The lowest of 3, 4 and 5 that applies to an access, else 0.
-pub fn size_number(clocks: usize, sent: usize, room: usize) -> u8
-    ensures { λ r. ⌜ r ≡ sizeNumber clocks sent room ⌝ }
+pub fn size_refusal(clocks: usize, sent: usize, room: usize) -> u8
+    ensures { λ r. ⌜ r ≡ sizeRefusal clocks sent room ⌝ }
 {
     if 4096 < clocks {
         return 3;
@@ -150,7 +150,7 @@ pub fn shift(words: &mut [u16], n: usize, clocks: usize, sent: &[u8], room: &mut
     if words.len() < n {
         return;
     }
-    if size_number(clocks, sent.len(), room.len()) != 0 {
+    if size_refusal(clocks, sent.len(), room.len()) != 0 {
         return;
     }
     if 16 * n <= clocks {

@@ -12,7 +12,7 @@ use Rattle.ground.proofs.Below.{all, all-at}
 use Rattle.ground.proofs.Lists.{tabulate-ext}
 use Rattle.ground.proofs.Truth.{and-left, and-right}
 use Rattle.wiring.specs.Wiring.{none, glyph, point, sixteen, fourteen, cathode, notDriven, listOf, partner, ruleAt, wireAt}
-use Rattle.wiring.specs.Table.{segmentEntry, wireEntry, displayNumber, table, entryAt, others, WiringTable}
+use Rattle.wiring.specs.Table.{segmentEntry, wireEntry, displayIndex, table, entryAt, others, WiringTable}
 use Rattle.wiring.specs.declared.Display.{Display}
 use Rattle.wiring.specs.declared.Display.the-variants.{Sixteen, Fourteen, SevenPair}
 
@@ -78,7 +78,7 @@ wired =
     }
 
 -- the row of a cathode, and of a number that is none
-pub wired-row : (k : Display) (d n : ℕ) → d < 8 → n ≡ displayNumber k → tabulate 19 (λ p. getD table (n * 152 + d * 19 + p) 0) ≡ tabulate 19 (λ p. wireEntry (wireAt k d p))
+pub wired-row : (k : Display) (d n : ℕ) → d < 8 → n ≡ displayIndex k → tabulate 19 (λ p. getD table (n * 152 + d * 19 + p) 0) ≡ tabulate 19 (λ p. wireEntry (wireAt k d p))
 wired-row k d n hd e =
     tabulate-ext 19 _ _ (λ p hp. rw (e, lt-ltb d 8 hd, lt-ltb p 19 hp) (entry-at k d hd p hp))
 

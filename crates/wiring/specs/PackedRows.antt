@@ -21,7 +21,7 @@ abbrev pub packed : ℕ → (ℕ → ℕ) → ℕ
 packed zero f = 0
 packed (suc n) f = f 0 + 256 * packed n (λ i. f (suc i))
 
--- a pin by its number in an answer (display: Pins `pinNumber`), where the segment that it carries is lit
+-- a pin by its number in an answer (display: Pins `pinCode`), where the segment that it carries is lit
 abbrev pub litNumber : Wire → ℕ
 litNumber cathode = 1
 litNumber notDriven = 0

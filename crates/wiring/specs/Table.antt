@@ -27,10 +27,10 @@ wireEntry notDriven = 19
 wireEntry (carries s) = segmentEntry s
 
 -- a display's place in the table
-abbrev pub displayNumber : Display → ℕ
-displayNumber Sixteen = 0
-displayNumber Fourteen = 1
-displayNumber SevenPair = 2
+abbrev pub displayIndex : Display → ℕ
+displayIndex Sixteen = 0
+displayIndex Fourteen = 1
+displayIndex SevenPair = 2
 
 -- 16-segment: cathodes 0 to 7, each of pins O0 to O18 (Table 2)
 abbrev sixteenWires : List ℕ
@@ -77,7 +77,7 @@ table = sixteenWires ++ fourteenWires ++ pairWires
 
 -- the entry of a display, a cathode and a pin
 abbrev pub entryAt : Display → ℕ → ℕ → ℕ
-entryAt k d p = getD table (displayNumber k * 152 + d * 19 + p) 0
+entryAt k d p = getD table (displayIndex k * 152 + d * 19 + p) 0
 
 -- the pins but the cathode's and its partner's, in rising order
 abbrev pub othersOf : ℕ → List ℕ → List ℕ

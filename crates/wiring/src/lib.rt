@@ -7,7 +7,7 @@ ghost use Prim.Native.Nat.{_+_, _<_, _≤_};
 ghost use lib.ListN.{getD};
 ghost use Rattle.ground.specs.Lists.{tabulate};
 ghost use Rattle.wiring.specs.Wiring.{wireAt};
-ghost use Rattle.wiring.specs.Table.{displayNumber, wireEntry, table, WiringTable};
+ghost use Rattle.wiring.specs.Table.{displayIndex, wireEntry, table, WiringTable};
 ghost use Rattle.wiring.specs.PackedRows.{sixPins, packedPins, parted, firstPins, packedRow};
 
 // What a cathode drives: a 16-segment digit, a 14-segment digit or two 7-segment digits.
@@ -41,8 +41,8 @@ pub const CATHODE: u8 = 18;
 pub const NOT_DRIVEN: u8 = 19;
 
 // A display's place in the table.
-fn display_number(display: Display) -> usize
-    ensures { λ r. ⌜ r ≡ displayNumber display ⌝ }
+fn display_index(display: Display) -> usize
+    ensures { λ r. ⌜ r ≡ displayIndex display ⌝ }
     ensures { λ r. ⌜ r < 3 ⌝ }
 {
     match display {
@@ -73,7 +73,7 @@ pub fn wires(display: Display, cathode: usize) -> [u8; 19]
     ensures { λ r. ⌜ r ≡ tabulate 19 (λ p. wireEntry (wireAt display cathode p)) ⌝ }
 {
     if cathode < 8 {
-        let k = display_number(display);
+        let k = display_index(display);
         entries(k * 152 + cathode * 19)
     } else {
         [NOT_DRIVEN; 19]

@@ -8,16 +8,16 @@ use Rattle.blink.proofs.plane_part.Statement.{statement}
 use Rattle.blink.proofs.plane_part.Tie as tie
 
 given : (c : tie.Else1) → Served (c .before .before .before .before .args .p0 .now) (c .before .before .before .before .args .p1 .now) (c .before .before .before .before .args .first) (c .before .before .before .before .args .last)
-given c = served _ _ _ _ (sym (c .before .plane-number .ensures) ∙ c .if1 .left)
+given c = served _ _ _ _ (sym (c .before .plane-refusal .ensures) ∙ c .if1 .left)
 
-plane-number-requires : tie.Need-plane-number-requires
-plane-number-requires c κs = search needs
+plane-refusal-requires : tie.Need-plane-refusal-requires
+plane-refusal-requires c κs = search needs
 
 slice-aggregate-result : tie.Need-slice-aggregate-result
 slice-aggregate-result c = search needs
 
 returns : tie.Need-returns
-returns c = rw (← c .before .before .plane-number .ensures, ne-eqb _ _ (c .before .if1 .taken))
+returns c = rw (← c .before .before .plane-refusal .ensures, ne-eqb _ _ (c .before .if1 .taken))
 
 add-end : tie.Need-add-end
 add-end c = omega (arith, given c .digits)
@@ -47,16 +47,16 @@ part-result-end-2 : tie.Need-part-result-end-2
 part-result-end-2 c = omega (arith, given (c .before .before) .digits, given (c .before .before) .length1)
 
 returns-2 : tie.Need-returns-2
-returns-2 c = rw (← c .before .before .before .before .plane-number .ensures, c .before .before .before .if1 .left) (simp (c .before .enum-told .given .1))
+returns-2 c = rw (← c .before .before .before .before .plane-refusal .ensures, c .before .before .before .if1 .left) (simp (c .before .enum-told .given .1))
 
 returns-3 : tie.Need-returns-3
-returns-3 c = rw (← c .before .before .before .before .plane-number .ensures, c .before .before .before .if1 .left) (simp (c .before .enum-told2 .given .1))
+returns-3 c = rw (← c .before .before .before .before .plane-refusal .ensures, c .before .before .before .if1 .left) (simp (c .before .enum-told2 .given .1))
 
 pub plane-part-spec : {M : Type 1} → statement M
 plane-part-spec =
     tie.close
     (tie.spec
-    plane-number-requires
+    plane-refusal-requires
     slice-aggregate-result
     returns
     add-end

@@ -6,10 +6,10 @@ use Rattle.calls.specs.Calls.{interrupt}
 use Rattle.lent.proofs.Params.{held}
 use Rattle.chain.proofs.Answers.{interruptAnswer}
 use denote.Triple.Table.{cited}
-use Rattle.lent.proofs.call_number.Symbol as number-def
-use Rattle.lent.proofs.call_number.Met as number-thm
-use Rattle.pass.proofs.interrupt_number.Symbol as own-def
-use Rattle.pass.proofs.interrupt_number.Met as own-thm
+use Rattle.lent.proofs.call_refusal.Symbol as number-def
+use Rattle.lent.proofs.call_refusal.Met as number-thm
+use Rattle.pass.proofs.interrupt_refusal.Symbol as own-def
+use Rattle.pass.proofs.interrupt_refusal.Met as own-thm
 use Rattle.answers.proofs.interrupt_refused.Symbol as refused-def
 use Rattle.answers.proofs.interrupt_refused.Met as refused-thm
 use Rattle.answers.proofs.interrupt.Symbol as work-def
@@ -26,6 +26,6 @@ max6954-interrupt-spec 𝓤 H 𝓜 𝓖 𝓡 =
     (λ r ds x. x ≡ record { number = r .number; records = ds; back = r .raised ∷ [] })
     (λ p r. r ≡ record { number = p .0; raised = 0 }) (λ n p r ds e. rw e)
     (λ p r. r ≡ record { number = 0; raised = p .0 .registers .keys .interrupt }) (λ d p r ds z e. rw e)
-    𝓤 H 𝓜 𝓖 𝓡 code.env key.name (code.unfolded 𝓤 H 𝓜 𝓡) (cited 𝓤 H _ 𝓜 𝓡 code.env number-def.name number-def.routine code.calls-lent·call-number (number-thm.met 𝓤 H 𝓜 𝓖 𝓡))
-    (cited 𝓤 H _ 𝓜 𝓡 code.env own-def.name own-def.routine code.calls-pass·interrupt-number (own-thm.met 𝓤 H 𝓜 𝓖 𝓡)) (cited 𝓤 H _ 𝓜 𝓡 code.env refused-def.name refused-def.routine code.calls-answers·interrupt-refused (refused-thm.met 𝓤 H 𝓜 𝓖 𝓡))
+    𝓤 H 𝓜 𝓖 𝓡 code.env key.name (code.unfolded 𝓤 H 𝓜 𝓡) (cited 𝓤 H _ 𝓜 𝓡 code.env number-def.name number-def.routine code.calls-lent·call-refusal (number-thm.met 𝓤 H 𝓜 𝓖 𝓡))
+    (cited 𝓤 H _ 𝓜 𝓡 code.env own-def.name own-def.routine code.calls-pass·interrupt-refusal (own-thm.met 𝓤 H 𝓜 𝓖 𝓡)) (cited 𝓤 H _ 𝓜 𝓡 code.env refused-def.name refused-def.routine code.calls-answers·interrupt-refused (refused-thm.met 𝓤 H 𝓜 𝓖 𝓡))
     (cited 𝓤 H _ 𝓜 𝓡 code.env work-def.name work-def.routine code.calls-answers·interrupt (work-thm.met 𝓤 H 𝓜 𝓖 𝓡))

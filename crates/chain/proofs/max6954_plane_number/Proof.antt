@@ -7,10 +7,10 @@ use Rattle.calls.specs.Calls.{plane}
 use Rattle.lent.proofs.Records.{size, byte}
 use Rattle.lent.proofs.Params.{held, lent}
 use denote.Triple.Table.{cited}
-use Rattle.lent.proofs.call_number.Symbol as number-def
-use Rattle.lent.proofs.call_number.Met as number-thm
-use Rattle.blink.proofs.plane_number.Symbol as own-def
-use Rattle.blink.proofs.plane_number.Met as own-thm
+use Rattle.lent.proofs.call_refusal.Symbol as number-def
+use Rattle.lent.proofs.call_refusal.Met as number-thm
+use Rattle.blink.proofs.plane_refusal.Symbol as own-def
+use Rattle.blink.proofs.plane_refusal.Met as own-thm
 use Rattle.answers.proofs.number_refused.Symbol as refused-def
 use Rattle.answers.proofs.number_refused.Met as refused-thm
 use Rattle.answers.proofs.number_served.Symbol as work-def
@@ -27,6 +27,6 @@ max6954-plane-number-spec 𝓤 H 𝓜 𝓖 𝓡 =
     (λ r ds x. x .number ≡ r)
     (λ p r. r ≡ p .0) (λ n p r ds e. sym e)
     (λ p r. r ≡ 0) (λ d p r ds z e. sym e)
-    𝓤 H 𝓜 𝓖 𝓡 code.env key.name (code.unfolded 𝓤 H 𝓜 𝓡) (cited 𝓤 H _ 𝓜 𝓡 code.env number-def.name number-def.routine code.calls-lent·call-number (number-thm.met 𝓤 H 𝓜 𝓖 𝓡))
-    (cited 𝓤 H _ 𝓜 𝓡 code.env own-def.name own-def.routine code.calls-blink·plane-number (own-thm.met 𝓤 H 𝓜 𝓖 𝓡)) (cited 𝓤 H _ 𝓜 𝓡 code.env refused-def.name refused-def.routine code.calls-answers·number-refused (refused-thm.met 𝓤 H 𝓜 𝓖 𝓡))
+    𝓤 H 𝓜 𝓖 𝓡 code.env key.name (code.unfolded 𝓤 H 𝓜 𝓡) (cited 𝓤 H _ 𝓜 𝓡 code.env number-def.name number-def.routine code.calls-lent·call-refusal (number-thm.met 𝓤 H 𝓜 𝓖 𝓡))
+    (cited 𝓤 H _ 𝓜 𝓡 code.env own-def.name own-def.routine code.calls-blink·plane-refusal (own-thm.met 𝓤 H 𝓜 𝓖 𝓡)) (cited 𝓤 H _ 𝓜 𝓡 code.env refused-def.name refused-def.routine code.calls-answers·number-refused (refused-thm.met 𝓤 H 𝓜 𝓖 𝓡))
     (cited 𝓤 H _ 𝓜 𝓡 code.env work-def.name work-def.routine code.calls-answers·number-served (work-thm.met 𝓤 H 𝓜 𝓖 𝓡))

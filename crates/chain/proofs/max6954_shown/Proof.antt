@@ -4,14 +4,14 @@ use mathlib.Core.Path.{_≡_}
 use mathlib.Core.List.{[], _∷_}
 use Rattle.device.specs.Steps.{shownPlane}
 use Rattle.calls.specs.Calls.{shown}
-use Rattle.calls.specs.Served.{planeIndex}
+use Rattle.calls.specs.Served.{planeCode}
 use Rattle.lent.proofs.Params.{held}
 use Rattle.chain.proofs.Answers.{shownAnswer}
 use denote.Triple.Table.{cited}
-use Rattle.lent.proofs.call_number.Symbol as number-def
-use Rattle.lent.proofs.call_number.Met as number-thm
-use Rattle.pass.proofs.shown_number.Symbol as own-def
-use Rattle.pass.proofs.shown_number.Met as own-thm
+use Rattle.lent.proofs.call_refusal.Symbol as number-def
+use Rattle.lent.proofs.call_refusal.Met as number-thm
+use Rattle.pass.proofs.shown_refusal.Symbol as own-def
+use Rattle.pass.proofs.shown_refusal.Met as own-thm
 use Rattle.answers.proofs.shown_refused.Symbol as refused-def
 use Rattle.answers.proofs.shown_refused.Met as refused-thm
 use Rattle.answers.proofs.shown.Symbol as work-def
@@ -27,7 +27,7 @@ max6954-shown-spec 𝓤 H 𝓜 𝓖 𝓡 =
     asks-spec own-def.name refused-def.name work-def.name 0 ([]) (held shownAnswer) (λ p. shown)
     (λ r ds x. x ≡ record { number = r .number; records = ds; back = r .plane ∷ [] })
     (λ p r. r ≡ record { number = p .0; plane = 0 }) (λ n p r ds e. rw e)
-    (λ p r. r ≡ record { number = 0; plane = planeIndex (shownPlane (p .0)) }) (λ d p r ds z e. rw e)
-    𝓤 H 𝓜 𝓖 𝓡 code.env key.name (code.unfolded 𝓤 H 𝓜 𝓡) (cited 𝓤 H _ 𝓜 𝓡 code.env number-def.name number-def.routine code.calls-lent·call-number (number-thm.met 𝓤 H 𝓜 𝓖 𝓡))
-    (cited 𝓤 H _ 𝓜 𝓡 code.env own-def.name own-def.routine code.calls-pass·shown-number (own-thm.met 𝓤 H 𝓜 𝓖 𝓡)) (cited 𝓤 H _ 𝓜 𝓡 code.env refused-def.name refused-def.routine code.calls-answers·shown-refused (refused-thm.met 𝓤 H 𝓜 𝓖 𝓡))
+    (λ p r. r ≡ record { number = 0; plane = planeCode (shownPlane (p .0)) }) (λ d p r ds z e. rw e)
+    𝓤 H 𝓜 𝓖 𝓡 code.env key.name (code.unfolded 𝓤 H 𝓜 𝓡) (cited 𝓤 H _ 𝓜 𝓡 code.env number-def.name number-def.routine code.calls-lent·call-refusal (number-thm.met 𝓤 H 𝓜 𝓖 𝓡))
+    (cited 𝓤 H _ 𝓜 𝓡 code.env own-def.name own-def.routine code.calls-pass·shown-refusal (own-thm.met 𝓤 H 𝓜 𝓖 𝓡)) (cited 𝓤 H _ 𝓜 𝓡 code.env refused-def.name refused-def.routine code.calls-answers·shown-refused (refused-thm.met 𝓤 H 𝓜 𝓖 𝓡))
     (cited 𝓤 H _ 𝓜 𝓡 code.env work-def.name work-def.routine code.calls-answers·shown (work-thm.met 𝓤 H 𝓜 𝓖 𝓡))

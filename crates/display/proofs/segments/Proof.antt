@@ -7,20 +7,20 @@ use borrow.Author.Needs.{needs}
 use Rattle.display.proofs.segments.Statement.{statement}
 use Rattle.display.proofs.segments.Tie as tie
 
-segments-number-requires : tie.Need-segments-number-requires
-segments-number-requires c κs = search needs
+segments-refusal-requires : tie.Need-segments-refusal-requires
+segments-refusal-requires c κs = search needs
 
 pins-shown-requires : tie.Need-pins-shown-requires
 pins-shown-requires c κs =
     let a = c .before .before .before .before .args in
-    cathode-lt (a .cathode) (a .font14 .now) (a .font16 .now) (sym (c .before .segments-number .ensures) ∙ c .if1 .taken)
+    cathode-lt (a .cathode) (a .font14 .now) (a .font16 .now) (sym (c .before .segments-refusal .ensures) ∙ c .if1 .taken)
 
 returns : tie.Need-returns
-returns c = rw (c .pins-shown .ensures, c .before .before .segments-number .ensures, sym (c .before .before .segments-number .ensures) ∙ c .before .if1 .taken)
+returns c = rw (c .pins-shown .ensures, c .before .before .segments-refusal .ensures, sym (c .before .before .segments-refusal .ensures) ∙ c .before .if1 .taken)
 
 returns-2 : tie.Need-returns-2
 unfolding tabulate
-returns-2 c = rw (← c .before .segments-number .ensures, ne-eqb _ _ (c .if1 .left))
+returns-2 c = rw (← c .before .segments-refusal .ensures, ne-eqb _ _ (c .if1 .left))
 
 pub segments-spec : {M : Type 1} → statement M
-segments-spec = tie.close (tie.spec segments-number-requires pins-shown-requires returns returns-2)
+segments-spec = tie.close (tie.spec segments-refusal-requires pins-shown-requires returns returns-2)

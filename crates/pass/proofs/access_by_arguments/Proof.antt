@@ -4,18 +4,18 @@ use borrow.Author.Needs.{needs}
 use Rattle.pass.proofs.access_by_arguments.Statement.{statement}
 use Rattle.pass.proofs.access_by_arguments.Tie as tie
 
-chain-number-requires : tie.Need-chain-number-requires
-chain-number-requires c κs = search needs
+chain-refusal-requires : tie.Need-chain-refusal-requires
+chain-refusal-requires c κs = search needs
 
-size-number-requires : tie.Need-size-number-requires
-size-number-requires c κs = search needs
+size-refusal-requires : tie.Need-size-refusal-requires
+size-refusal-requires c κs = search needs
 
 first-of-requires : tie.Need-first-of-requires
 first-of-requires c κs = search needs
 
 returns : tie.Need-returns
-returns c = simp (first-last, c .before .before .chain-number .ensures, c .before .size-number .ensures, c .first-of .ensures)
+returns c = simp (first-last, c .before .before .chain-refusal .ensures, c .before .size-refusal .ensures, c .first-of .ensures)
 
 pub access-by-arguments-spec : {M : Type 1} → statement M
 access-by-arguments-spec =
-    tie.close (tie.spec chain-number-requires size-number-requires first-of-requires returns)
+    tie.close (tie.spec chain-refusal-requires size-refusal-requires first-of-requires returns)

@@ -18,11 +18,11 @@ module _ (t : tie.Else3) where
   start = t .before .before .before .before .before .before .before
 
   sizes : (start .args .clocks ≤ 4096) × (bytesFor (start .args .clocks) ≤ length (start .args .sent .now)) × (bytesFor (start .args .clocks) ≤ length (start .args .room .now))
-  sizes = served (start .args .clocks) _ _ (sym (t .before .size-number .ensures) ∙ t .if3 .left)
+  sizes = served (start .args .clocks) _ _ (sym (t .before .size-refusal .ensures) ∙ t .if3 .left)
 
   passed : fits (start .args .words .now) (start .args .n) (start .args .clocks) (start .args .sent .now) (start .args .room .now) ≡ true
   passed =
-      let f = rw (t .before .size-number .ensures) at (eq-eqb _ 0 (t .if3 .left)) in
+      let f = rw (t .before .size-refusal .ensures) at (eq-eqb _ 0 (t .if3 .left)) in
       simp (le-leb _ _ (t .before .before .before .if1 .left), le-leb _ _ (t .before .before .if2 .left), f)
 
 returns : tie.Need-returns
@@ -31,12 +31,12 @@ returns c = simp (lt-leb _ _ (c .if1 .taken)) (refl, refl)
 returns-2 : tie.Need-returns-2
 returns-2 c = simp (le-leb _ _ (c .before .if1 .left), lt-leb _ _ (c .if2 .taken)) (refl, refl)
 
-size-number-requires : tie.Need-size-number-requires
-size-number-requires c κs = search needs
+size-refusal-requires : tie.Need-size-refusal-requires
+size-refusal-requires c κs = search needs
 
 returns-3 : tie.Need-returns-3
 returns-3 c =
-    let f = rw (c .before .size-number .ensures) at (ne-eqb _ 0 (c .if3 .taken)) in
+    let f = rw (c .before .size-refusal .ensures) at (ne-eqb _ 0 (c .if3 .taken)) in
     simp (le-leb _ _ (c .before .before .before .if1 .left), le-leb _ _ (c .before .before .if2 .left), f) (refl, refl)
 
 mul-if4 : tie.Need-mul-if4
@@ -72,7 +72,7 @@ shift-spec =
     (tie.spec
     returns
     returns-2
-    size-number-requires
+    size-refusal-requires
     returns-3
     mul-if4
     shift-whole-requires

@@ -6,8 +6,8 @@ use borrow.Author.Needs.{needs}
 use Rattle.wiring.proofs.wires.Statement.{statement}
 use Rattle.wiring.proofs.wires.Tie as tie
 
-display-number-requires : tie.Need-display-number-requires
-display-number-requires c κs = search needs
+display-index-requires : tie.Need-display-index-requires
+display-index-requires c κs = search needs
 
 mul-entries : tie.Need-mul-entries
 mul-entries c = search needs
@@ -22,7 +22,7 @@ entries-requires : tie.Need-entries-requires
 entries-requires c κs = search needs
 
 returns : tie.Need-returns
-returns c = c .entries .ensures ∙ wired-row (c .before .before .before .args .display) _ _ (c .before .before .if1 .taken) (c .before .display-number .ensures .0)
+returns c = c .entries .ensures ∙ wired-row (c .before .before .before .args .display) _ _ (c .before .before .if1 .taken) (c .before .display-index .ensures .0)
 
 returns-2 : tie.Need-returns-2
 unfolding tabulate
@@ -32,7 +32,7 @@ pub wires-spec : {M : Type 1} → statement M
 wires-spec =
     tie.close
     (tie.spec
-    display-number-requires
+    display-index-requires
     mul-entries
     mul-entries-2
     add-entries

@@ -1,7 +1,7 @@
 -- `row::Row::number` meets its contract. Assumes nothing.
 use mathlib.Core.Path.{_≡_, _∙_}
 use borrow.Author.Needs.{needs}
-use Rattle.pass.specs.Found.{callNumber}
+use Rattle.pass.specs.Found.{callRefusal}
 use Rattle.row.specs.Row.{records}
 use Rattle.row.proofs.Typed.{sixteen}
 use Rattle.row.proofs.RowLaws.{call-found, in-row}
@@ -21,7 +21,7 @@ returns : tie.Need-returns
 returns c =
     let s = c .before .before .before in
     let a = s .args in
-    let e : c .found .result ≡ callNumber (records (a .self)) (a .driver) (a .own) =
+    let e : c .found .result ≡ callRefusal (records (a .self)) (a .driver) (a .own) =
     c .found .ensures ∙ call-found (a .self) _ (c .before .before .length .ensures .0) (a .driver) (a .own) _ (c .before .by-arguments .ensures) in
     (e, in-row (a .self) (sixteen (a .self) _ (s .good .0)) (a .driver) (a .own) _ e)
 

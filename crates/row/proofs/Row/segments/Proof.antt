@@ -4,8 +4,8 @@ use Rattle.row.proofs.RowLaws.{show-refused, show-done}
 use Rattle.row.proofs.Row.segments.Statement.{statement}
 use Rattle.row.proofs.Row.segments.Tie as tie
 
-segments-number-requires : tie.Need-segments-number-requires
-segments-number-requires c κs = search needs
+segments-refusal-requires : tie.Need-segments-refusal-requires
+segments-refusal-requires c κs = search needs
 
 number-requires : tie.Need-number-requires
 number-requires c κs = search needs
@@ -14,7 +14,7 @@ returns : tie.Need-returns
 returns c =
     let n = c .before in
     let a = n .before .before .before .before .args in
-    show-refused (a .self) (a .driver) (a .cathode) (a .font14 .now) (a .font16 .now) _ _ (n .before .segments-number .ensures) (n .number .ensures .0) (c .if1 .taken)
+    show-refused (a .self) (a .driver) (a .cathode) (a .font14 .now) (a .font16 .now) _ _ (n .before .segments-refusal .ensures) (n .number .ensures .0) (c .if1 .taken)
 
 named-requires : tie.Need-named-requires
 named-requires c κs = c .before .number .ensures .1 (c .if1 .left)
@@ -27,13 +27,13 @@ returns-2 c =
     let n = c .before .before .before in
     let a = n .before .before .before .before .args in
     rw (c .segments .ensures, c .before .named .ensures)
-    (show-done (a .self) (a .driver) (a .cathode) (a .font14 .now) (a .font16 .now) _ _ (n .before .segments-number .ensures) (n .number .ensures .0) (c .before .before .if1 .left))
+    (show-done (a .self) (a .driver) (a .cathode) (a .font14 .now) (a .font16 .now) _ _ (n .before .segments-refusal .ensures) (n .number .ensures .0) (c .before .before .if1 .left))
 
 pub segments-spec : {M : Type 1} → statement M
 segments-spec =
     tie.close
     (tie.spec
-    segments-number-requires
+    segments-refusal-requires
     number-requires
     returns
     named-requires

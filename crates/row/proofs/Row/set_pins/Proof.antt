@@ -6,8 +6,8 @@ use Rattle.row.proofs.RowLaws.{give-refused, give-done}
 use Rattle.row.proofs.Row.set_pins.Statement.{statement}
 use Rattle.row.proofs.Row.set_pins.Tie as tie
 
-levels-number-requires : tie.Need-levels-number-requires
-levels-number-requires c κs = search needs
+levels-refusal-requires : tie.Need-levels-refusal-requires
+levels-refusal-requires c κs = search needs
 
 number-requires : tie.Need-number-requires
 number-requires c κs = search needs
@@ -19,7 +19,7 @@ returns : tie.Need-returns
 returns c =
     let n = c .before .before in
     let a = n .before .before .args in
-    c .refused .ensures ∙ give-refused (a .self) (a .driver) (levels (a .levels)) _ _ (n .before .levels-number .ensures) (n .number .ensures .0) (c .before .if1 .taken)
+    c .refused .ensures ∙ give-refused (a .self) (a .driver) (levels (a .levels)) _ _ (n .before .levels-refusal .ensures) (n .number .ensures .0) (c .before .if1 .taken)
 
 named-requires : tie.Need-named-requires
 named-requires c κs = c .before .number .ensures .1 (c .if1 .left)
@@ -36,8 +36,8 @@ returns-2 c =
     let n = l .before in
     let a = n .before .before .args in
     rw (c .served .ensures, c .before .with-pins .ensures, c .before .before .named .ensures)
-    (give-done (a .self) (a .driver) (levels (a .levels)) _ _ (n .before .levels-number .ensures) (n .number .ensures .0) (l .if1 .left))
+    (give-done (a .self) (a .driver) (levels (a .levels)) _ _ (n .before .levels-refusal .ensures) (n .number .ensures .0) (l .if1 .left))
 
 pub set-pins-spec : {M : Type 1} → statement M
 set-pins-spec =
-    tie.close (tie.spec levels-number-requires number-requires refused-requires returns named-requires with-pins-requires served-requires returns-2)
+    tie.close (tie.spec levels-refusal-requires number-requires refused-requires returns named-requires with-pins-requires served-requires returns-2)

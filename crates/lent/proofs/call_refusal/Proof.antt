@@ -1,4 +1,4 @@
--- `lent::call_number` meets its contract: a walk of its MIR, by hand. The slice is looked into once, before the loop. A turn copies one record out of it and calls `with`.
+-- `lent::call_refusal` meets its contract: a walk of its MIR, by hand. The slice is looked into once, before the loop. A turn copies one record out of it and calls `with`.
 -- Assumes nothing.
 use native.Mathlib.Omega.{arith}
 use denote.Struct.Laws as LL
@@ -30,15 +30,15 @@ use Rattle.pass.proofs.Widths.with.Symbol as also-def
 use Rattle.pass.proofs.Widths.with.Met as also-thm
 use Rattle.lent.proofs.Records.{size, byte, device, widths, bytes-of}
 use Rattle.lent.proofs.Walk.{Walk, calls-value, leave, leave-room, tests, whiles, proves}
-use Rattle.lent.proofs.call_number.Key as key
-use Rattle.lent.proofs.call_number as call-number
-use Rattle.lent.proofs.call_number.Statement as stated
-use Rattle.lent.proofs.call_number.Code as code
+use Rattle.lent.proofs.call_refusal.Key as key
+use Rattle.lent.proofs.call_refusal as call-refusal
+use Rattle.lent.proofs.call_refusal.Statement as stated
+use Rattle.lent.proofs.call_refusal.Code as code
 
 abbrev R : RattleType
 R = device .row
 
-abbrev stayed : Stays (call-number.ended .signature .params) (call-number.ended .kept)
+abbrev stayed : Stays (call-refusal.ended .signature .params) (call-refusal.ended .kept)
 stayed = (stay-none-slice (0 ∷ []) tt (plain (λ _. R)) yes, (stay-none (λ _. size .row) yes, (stay-none (λ _. byte .row) yes, tt)))
 
 -- s is a value of its type
@@ -65,7 +65,7 @@ module _ {M : Type 1} (𝓤 : URA M) (H : Heap 𝓤) (A : Atoms 𝓤) (W : Given
   abbrev x : RefT (List Device)
   x = record { ptr = (b, o); name = γ; now = ys }
 
-  abbrev y : Bound 𝓤 H A call-number.signature
+  abbrev y : Bound 𝓤 H A call-refusal.signature
   y = ((κ, tt), (q, tt), tt, (x, (driver, (own, tt))), (slice-vals x, (size .val driver ∷ [], (byte .val own ∷ [], tt))))
 
   -- the loop's state: i records are looked at
@@ -75,7 +75,7 @@ module _ {M : Type 1} (𝓤 : URA M) (H : Heap 𝓤) (A : Atoms 𝓤) (W : Given
   walk : (𝓣 : Tables 𝓤 H) → Triple 𝓤 (𝓣 .C early-def.name) (tripleOf 𝓤 H A early′.signature (early′.spec 𝓤 H A mem run)) → Triple 𝓤 (𝓣 .C look-def.name) (tripleOf 𝓤 H A look′.signature (look′.spec 𝓤 H A mem run))
       → Triple 𝓤 (𝓣 .C none-def.name) (tripleOf 𝓤 H A none.signature (none.spec 𝓤 H A mem run)) → Triple 𝓤 (𝓣 .C also-def.name) (tripleOf 𝓤 H A also.signature (also.spec 𝓤 H A mem run))
       → Triple 𝓤 (𝓣 .C last-def.name) (tripleOf 𝓤 H A last′.signature (last′.spec 𝓤 H A mem run))
-      → Room R n → Is (size .row) driver (size .val driver ∷ []) → Is (byte .row) own (byte .val own ∷ []) → Walk 𝓤 H A call-number.ended stayed (call-number.clauses 𝓤 H A mem run) 𝓣 code.function y tt
+      → Room R n → Is (size .row) driver (size .val driver ∷ []) → Is (byte .row) own (byte .val own ∷ []) → Walk 𝓤 H A call-refusal.ended stayed (call-refusal.clauses 𝓤 H A mem run) 𝓣 code.function y tt
   walk 𝓣 known-early known-look known-none known-also known-last room is-j is-own =
       qed W ((‵ (flft κ q) ⊛ ‵ ftrue) ∷ ‵ (owns (ShrSlice (named 0) κ R ∷ size .row ∷ byte .row ∷ []) (y .3) (y .4)) ∷ []) ∵ enter ! (𝓣 .C) (𝓣 .Λ) code.function _ _ $
       alloc1 ! (λ l₀. alloc1 ! (λ l₁. alloc1 ! (λ l₂. alloc1 ! (λ l₃. alloc1 ! (λ l₄. alloc1 ! (λ l₅. alloc1 ! (λ l₆. alloc1 ! (λ l₇. alloc1 ! (λ l₈. alloc1 ! (λ l₉. alloc1 ! (λ m₀. alloc1 ! (λ m₁. alloc1 ! (λ m₂. alloc0 ! $ params1 ! $
@@ -130,14 +130,14 @@ module _ {M : Type 1} (𝓤 : URA M) (H : Heap 𝓤) (A : Atoms 𝓤) (W : Given
       leave ! 1 12 refl refl $ leave-room ! 1 10 refl refl $ leave-room ! 1 8 refl refl $ leave-room ! 1 6 refl refl $ free0 ! $
       -- [the token; the borrow; true; res; the slice's fact; what the others own]
       move ! (3 ∷ 1 ∷ []) $ fjoin ! $ move ! (3 ∷ 0 ∷ []) $ fjoin ! $ keep ! (1 ∷ 0 ∷ 3 ∷ []) $
-      suffices ! _ (ends-at 𝓤 H A call-number.ended stayed (call-number.clauses 𝓤 H A mem run) W (y, tt) (byte .val number) number (tt, (tt, (tt, tt))) (tt, (tt, (tt, tt)))) $ says ! (ap (found early) (fit-all (take m ys) (subst (λ (k : ℕ). AllBytes (take k ys)) same (t .1 .1 .1))) ∙ call-found ys driver own) $
+      suffices ! _ (ends-at 𝓤 H A call-refusal.ended stayed (call-refusal.clauses 𝓤 H A mem run) W (y, tt) (byte .val number) number (tt, (tt, (tt, tt))) (tt, (tt, (tt, tt)))) $ says ! (ap (found early) (fit-all (take m ys) (subst (λ (k : ℕ). AllBytes (take k ys)) same (t .1 .1 .1))) ∙ call-found ys driver own) $
       nothing ! $ move ! (1 ∷ 0 ∷ []) $ join ! $ frame ! $ fjoin ! $ frame ! $ owned ! (byte .row) (Is (byte .row)) (byte .makes 𝓤 H A W) number _ is-r $ done !))))))))))))))))))))
 
-pub call-number-spec : {M : Type 1} → stated.statement M
+pub call-refusal-spec : {M : Type 1} → stated.statement M
 unfolding code.routine tablesOf
-call-number-spec 𝓤 H 𝓜 𝓖 𝓡 =
+call-refusal-spec 𝓤 H 𝓜 𝓖 𝓡 =
     let W = givenOf 𝓤 H 𝓜 𝓖 in
-    proves 𝓤 H 𝓜 𝓖 𝓡 code.env call-number.ended stayed (call-number.clauses 𝓤 H (𝓖 .A) (𝓜 .mem) (𝓡 .run)) (goes-none-slice 𝓤 H (𝓖 .A) W 1 (0 ∷ []) tt (plain (λ _. R)) yes, (goes-none 𝓤 H (𝓖 .A) W 1 (λ _. size .row) yes (λ κs x f. refl), (goes-none 𝓤 H (𝓖 .A) W 1 (λ _. byte .row) yes (λ κs x f. refl), tt)))
+    proves 𝓤 H 𝓜 𝓖 𝓡 code.env call-refusal.ended stayed (call-refusal.clauses 𝓤 H (𝓖 .A) (𝓜 .mem) (𝓡 .run)) (goes-none-slice 𝓤 H (𝓖 .A) W 1 (0 ∷ []) tt (plain (λ _. R)) yes, (goes-none 𝓤 H (𝓖 .A) W 1 (λ _. size .row) yes (λ κs x f. refl), (goes-none 𝓤 H (𝓖 .A) W 1 (λ _. byte .row) yes (λ κs x f. refl), tt)))
     key.name code.function (code.unfolded 𝓤 H 𝓜 𝓡) (λ κs. (slice-vals, ((λ n. size .val n ∷ []), ((λ n. byte .val n ∷ []), tt)))) (λ κs. (shr-slice-tells (named 0) (κs .0) R, (size .tells, (byte .tells, tt))))
     (λ κs qs bounds a g are. via 𝓤 _ (fst∗ 𝓤 _ (emp 𝓤)) (walk 𝓤 H (𝓖 .A) W (𝓜 .mem) (𝓡 .run) (κs .0) (qs .0) (a .0 .ptr .0) (a .0 .ptr .1) (a .0 .name) (a .0 .now) (a .1 .0) (a .1 .1 .0) (tablesOf 𝓤 H 𝓜 (tables 𝓤 H 𝓜 𝓡 code.env))
     (cited 𝓤 H _ 𝓜 𝓡 code.env early-def.name early-def.routine code.calls-pass·by-arguments (early-thm.met 𝓤 H 𝓜 𝓖 𝓡)) (cited 𝓤 H _ 𝓜 𝓡 code.env look-def.name look-def.routine code.calls-pass·to-pass (look-thm.met 𝓤 H 𝓜 𝓖 𝓡))

@@ -1,4 +1,4 @@
--- What a plane call that is not refused was given, and the digits that it gives back.
+-- The digits that a plane call gives back.
 -- Assumes nothing.
 use Prim.Native.Nat.{ℕ, _+_, _-_, _<_, _≤_}
 use native.Mathlib.Omega.{arith}
@@ -11,36 +11,19 @@ use borrow.Author.Tests.{eqb-true, leb-true, ltb-true}
 use Rattle.ground.proofs.Truth.{passed}
 use Rattle.words.specs.declared.Plane.{Plane}
 use Rattle.words.specs.declared.Plane.the-variants.{P0, P1}
-use Rattle.blink.specs.Part.{planeRefusal, lentPlane, planePart}
+use Rattle.refusals.specs.Refusals.{planeRefusal}
+use Rattle.refusals.proofs.RefusalLaws.{PlaneServed, plane-served}
+use Rattle.blink.specs.Part.{lentPlane, planePart}
 use Rattle.blink.specs.PartDigits.{PartDigits}
 
-pub record Served (p0 p1 : List ℕ) (first last : ℕ) : Type 0 where
-  pub length0 : length p0 ≡ 16
-  pub length1 : length p1 ≡ 16
-  pub digits : last < 16
-  pub range : first ≤ last
-
-pub served : (p0 p1 : List ℕ) (first last : ℕ) → planeRefusal p0 p1 first last ≡ 0 → Served p0 p1 first last
-served p0 p1 first last e =
-    let a = passed (eqb (length p0) 16) _ 5 e in
-    let b = passed (eqb (length p1) 16) _ 5 (a .1) in
-    let c = passed (ltb last 16) _ 5 (b .1) in
-    let d = passed (leb first last) _ 5 (c .1) in
-    record {
-      length0 = eqb-true _ _ (a .0);
-      length1 = eqb-true _ _ (b .0);
-      digits = ltb-true _ _ (c .0);
-      range = leb-true _ _ (d .0);
-    }
-
-lent-long : (shown : Plane) (p0 p1 : List ℕ) (first last : ℕ) → Served p0 p1 first last → length (lentPlane shown p0 p1) ≡ 16
+lent-long : (shown : Plane) (p0 p1 : List ℕ) (first last : ℕ) → PlaneServed p0 p1 first last → length (lentPlane shown p0 p1) ≡ 16
 lent-long P0 p0 p1 first last s = s .length0
 lent-long P1 p0 p1 first last s = s .length1
 
 part-size : (shown : Plane) (p0 p1 : List ℕ) (first last : ℕ) → planeRefusal p0 p1 first last ≡ 0
     → first + length (planePart shown p0 p1 first last) ≡ last + 1
 part-size shown p0 p1 first last e =
-    let s = served p0 p1 first last e in
+    let s = plane-served p0 p1 first last e in
     let long = lent-long shown p0 p1 first last s in
     rw e (simp (length-take, length-drop) (omega arith))
 

@@ -2,16 +2,12 @@
 -- Assumes nothing.
 use Prim.Native.Nat.{ℕ, _+_, _-_}
 use mathlib.Core.List.{List, []}
-use lib.Dec.{eqb, leb, ltb}
-use lib.ListN.{length, take, drop}
+use lib.Dec.{eqb}
+use lib.ListN.{take, drop}
 use Rattle.ground.specs.Choice.{if}
+use Rattle.refusals.specs.Refusals.{planeRefusal}
 use Rattle.words.specs.declared.Plane.{Plane}
 use Rattle.words.specs.declared.Plane.the-variants.{P0, P1}
-
--- 6 for a lent plane not 16 long, a digit above 15, or a last digit below the first
-abbrev pub planeRefusal : List ℕ → List ℕ → ℕ → ℕ → ℕ
-planeRefusal p0 p1 first last =
-    if (eqb (length p0) 16) (if (eqb (length p1) 16) (if (ltb last 16) (if (leb first last) 0 6) 6) 6) 6
 
 -- P0, then P1
 abbrev pub lentPlane : Plane → List ℕ → List ℕ → List ℕ

@@ -4,9 +4,10 @@ use Prim.Native.Nat.{ℕ, _+_, _≤_}
 use mathlib.Core.List.{List}
 use mathlib.Core.Path.{_≡_}
 use lib.ListN.{length, getD}
+use Rattle.refusals.specs.Refusals.{planeRefusal}
 use Rattle.words.specs.declared.Plane.{Plane}
 use Rattle.words.specs.declared.Plane.the-variants.{P0, P1}
-use Rattle.blink.specs.Part.{planeRefusal, planePart}
+use Rattle.blink.specs.Part.{planePart}
 
 -- every digit of every part that isn't refused
 pub record PartDigits : Type 0 where

@@ -1,7 +1,8 @@
 // The blink count of a MAX6954: master clocks, the phase, the plane shown, and a part of it from two lent planes.
 ghost use mathlib.Core.Path.{_≡_};
+ghost use Rattle.refusals.specs.Refusals.{planeRefusal};
 ghost use Rattle.blink.specs.Blink.{advanced, restarted, phaseAt, shownAt};
-ghost use Rattle.blink.specs.Part.{planeRefusal, planePart};
+ghost use Rattle.blink.specs.Part.{planePart};
 ghost use Rattle.blink.specs.Phases.{Phases};
 ghost use Rattle.blink.specs.PartDigits.{PartDigits};
 use words::Plane;

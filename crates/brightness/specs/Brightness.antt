@@ -5,6 +5,7 @@ use mathlib.Core.List.{List}
 use lib.Dec.{eqb, ltb}
 use lib.ListN.{getD}
 use Rattle.ground.specs.Choice.{if, odd}
+use Rattle.refusals.specs.Refusals.{brightnessRefusal}
 use Rattle.device.specs.declared.Device.{Device}
 use Rattle.brightness.specs.Dark.{testOn}
 use Rattle.brightness.specs.declared.BrightnessAnswer.{BrightnessAnswer}
@@ -25,10 +26,6 @@ sixteenths v = if (ltb (v + 1) 15) (v + 1) 15
 -- the brightness of a digit; in display test 7
 abbrev pub brightnessOf : Device → ℕ → ℕ
 brightnessOf x i = if (testOn x) 7 (sixteenths (nibbleOf x i))
-
--- 6 for a digit above 15
-abbrev pub brightnessRefusal : ℕ → ℕ
-brightnessRefusal i = if (ltb i 16) 0 6
 
 -- the answer: its number, and the sixteenths, 0 where refused
 abbrev pub brightnessAnswer : Device → ℕ → BrightnessAnswer

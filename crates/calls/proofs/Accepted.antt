@@ -5,28 +5,19 @@ use native.Mathlib.Omega.{arith}
 use mathlib.Core.Bool.{Bool, true, false, _&&_}
 use mathlib.Core.List.{List, [], _∷_}
 use mathlib.Core.Path.{_≡_, refl}
-use lib.Dec.{eqb, leb, ltb}
+use lib.Dec.{leb, ltb}
 use lib.ListN.{length}
-use borrow.Author.Tests.{eqb-true, eqb-false, leb-true, ltb-true, ltb-false}
+use borrow.Author.Tests.{leb-true, ltb-true, ltb-false}
 use Rattle.ground.specs.Choice.{if}
 use Rattle.ground.proofs.Truth.{and-left, and-right, passed}
-use Rattle.wire.specs.Bits.{bytesFor}
-use Rattle.wire.specs.Shift.{sizeRefusal}
-use Rattle.wire.proofs.SizeLaws.{served as sizes-fit}
+use Rattle.refusals.specs.Refusals.{bytesFor, chainRefusal, driverRefusal, soundRefusal, firstOf, sizeRefusal}
+use Rattle.refusals.proofs.RefusalLaws.{first-zero, size-served as sizes-fit}
 use Rattle.device.specs.declared.Device.{Device}
 use Rattle.calls.specs.Calls.{levels, Call}
-use Rattle.calls.specs.Refusals.{chainRefusal, driverRefusal, namedRefusal, bytesRefusal, stepRefusal, argumentRefusal, soundRefusal, allSound, firstOf, refusalBy}
+use Rattle.calls.specs.CallRefusals.{namedRefusal, bytesRefusal, stepRefusal, argumentRefusal, allSound, refusalBy}
 use Rattle.calls.specs.Served.{served, givenBack, refusedBack}
 use Rattle.calls.specs.Outcome.{number, after, reply}
 use Rattle.calls.specs.Isolation.{refusalAlone, accepted}
-
--- the first number of a list that isn't 0 is 0: all are
-pub first-zero : (k : ℕ) (ks : List ℕ) → firstOf (k ∷ ks) ≡ 0 → (k ≡ 0) × (firstOf ks ≡ 0)
-first-zero k ks = go (eqb k 0) refl
-  where
-    go : (b : Bool) → eqb k 0 ≡ b → if b (firstOf ks) k ≡ 0 → (k ≡ 0) × (firstOf ks ≡ 0)
-    go true t e = (eqb-true k 0 t, e)
-    go false t e = absurd (eqb-false k 0 t e)
 
 -- what the number 0 says
 pub record Accepted (n : ℕ) (sound : Bool) (q : Call) : Type 0 where

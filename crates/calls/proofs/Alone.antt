@@ -10,12 +10,12 @@ use lib.ListN.{length}
 use lib.Seq.{getD-set-same, getD-set-other}
 use borrow.Author.Tests.{eqb-true, eqb-false}
 use Rattle.ground.specs.Choice.{if}
-use Rattle.wire.specs.Bits.{bytesFor}
+use Rattle.refusals.specs.Refusals.{bytesFor}
 use Rattle.device.specs.PowerUp.{powerUp}
 use Rattle.device.specs.Taken.{taken}
 use Rattle.device.specs.declared.Device.{Device}
 use Rattle.calls.specs.Calls.{Step, Question, Call, access, give, ask}
-use Rattle.calls.specs.Refusals.{allSound}
+use Rattle.calls.specs.CallRefusals.{allSound}
 use Rattle.calls.specs.Served.{recordOf, stepped, answerTo, served, givenBack, refusedBack}
 use Rattle.calls.specs.Outcome.{after, reply}
 use Rattle.calls.specs.CallLists.{afterAll, numbers, replies}

@@ -6,7 +6,8 @@ use mathlib.Core.List.{List}
 use mathlib.Core.Path.{_≡_, _∙_}
 use lib.ListN.{length, getD, drop, length-map, List·getD-map}
 use Rattle.ground.proofs.Lists.{getD-tabulate}
-use Rattle.wire.specs.Bits.{bits, value, bytesFor}
+use Rattle.refusals.specs.Refusals.{bytesFor}
+use Rattle.wire.specs.Bits.{bits, value}
 use Rattle.wire.specs.Wire.{answer}
 use Rattle.wire.proofs.LineLaws.{length-answer}
 use Rattle.wire.proofs.WholeLaws.{whole, word-append}

@@ -8,7 +8,7 @@ use Rattle.ground.specs.Lists.{tabulate, Agree}
 use Rattle.wire.specs.Bits.{bits, value, unpack, byteAt, pack, wordAt}
 use Rattle.wire.specs.Wire.{string, words, wire, answer, shifted}
 use Rattle.device.specs.Taken.{taken}
-use Rattle.calls.specs.Refusals.{allSound}
+use Rattle.calls.specs.CallRefusals.{allSound}
 use Rattle.calls.specs.Outcome.{number, after, reply}
 use Rattle.calls.specs.CallLists.{afterAll, numbers, replies}
 use Rattle.calls.specs.Examples.{rows, numberRows, answerRows, Examples}

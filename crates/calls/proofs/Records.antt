@@ -16,7 +16,7 @@ use Rattle.device.specs.PowerUp.{powerUp}
 use Rattle.device.specs.Sound.{soundOf}
 use Rattle.device.specs.declared.Device.{Device}
 use Rattle.calls.specs.Calls.{Call, access, give, ask}
-use Rattle.calls.specs.Refusals.{allSound}
+use Rattle.calls.specs.CallRefusals.{allSound}
 use Rattle.calls.specs.Served.{served}
 use Rattle.calls.specs.Outcome.{number, after}
 use Rattle.calls.specs.CallLists.{afterAll}

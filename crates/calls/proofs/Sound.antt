@@ -14,7 +14,7 @@ use Rattle.device.specs.Sound.{soundOf}
 use Rattle.device.specs.declared.Device.{Device}
 use Rattle.device.proofs.Sound.{soundness as device-sound}
 use Rattle.calls.specs.Calls.{Step, scan, levels, clocks, Call, access, give, ask}
-use Rattle.calls.specs.Refusals.{stepRefusal, allSound}
+use Rattle.calls.specs.CallRefusals.{stepRefusal, allSound}
 use Rattle.calls.specs.Served.{recordOf, stepped, served}
 use Rattle.calls.specs.Outcome.{number, after}
 use Rattle.calls.specs.CallLists.{afterAll}

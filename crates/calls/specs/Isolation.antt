@@ -11,7 +11,7 @@ use Rattle.wire.specs.Bits.{bits, value, unpack, wordAt}
 use Rattle.device.specs.Taken.{taken}
 use Rattle.device.specs.declared.Device.{Device}
 use Rattle.calls.specs.Calls.{Question, Call, access, give, ask}
-use Rattle.calls.specs.Refusals.{allSound, refusalBy}
+use Rattle.calls.specs.CallRefusals.{allSound, refusalBy}
 use Rattle.calls.specs.Served.{recordOf, stepped, answerTo}
 use Rattle.calls.specs.Outcome.{reply}
 use Rattle.calls.specs.CallLists.{afterAll, numbers, replies}

@@ -1,5 +1,5 @@
 pub mod Calls
-pub mod Refusals
+pub mod CallRefusals
 pub mod Served
 pub mod Outcome
 pub mod CallLists

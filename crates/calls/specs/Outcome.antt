@@ -7,7 +7,7 @@ use lib.ListN.{length}
 use Rattle.ground.specs.Choice.{if}
 use Rattle.device.specs.declared.Device.{Device}
 use Rattle.calls.specs.Calls.{Call}
-use Rattle.calls.specs.Refusals.{allSound, refusalBy}
+use Rattle.calls.specs.CallRefusals.{allSound, refusalBy}
 use Rattle.calls.specs.Served.{served, givenBack, refusedBack}
 
 -- the number of a call on a chain: 0 where it is served

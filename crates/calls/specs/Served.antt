@@ -4,9 +4,9 @@ use Prim.Native.Nat.{ℕ, _-_}
 use mathlib.Core.List.{List, [], _∷_, _++_, map}
 use lib.ListN.{length, getD, set, drop}
 use Rattle.ground.specs.Lists.{tabulate}
+use Rattle.refusals.specs.Refusals.{bytesFor}
 use Rattle.words.specs.declared.Plane.{Plane}
 use Rattle.words.specs.declared.Plane.the-variants.{P0, P1}
-use Rattle.wire.specs.Bits.{bytesFor}
 use Rattle.wire.specs.Wire.{answer, shifted}
 use Rattle.blink.specs.Part.{planePart}
 use Rattle.device.specs.PowerUp.{powerUp}

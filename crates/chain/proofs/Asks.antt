@@ -33,7 +33,7 @@ use Rattle.device.specs.declared.Device.{Device}
 use Rattle.device.proofs.Device as T
 use Rattle.device.proofs.Device.Laws as T′
 use Rattle.calls.specs.Calls.{Question, ask}
-use Rattle.calls.specs.Refusals.{questionRefusal}
+use Rattle.calls.specs.CallRefusals.{questionRefusal}
 use Rattle.calls.specs.Served.{answerTo, refusedTo}
 use Rattle.calls.specs.Outcome.{outcome, Outcome}
 use Rattle.pass.specs.Found.{callRefusal}

@@ -29,7 +29,7 @@ use Rattle.lent.proofs.Logic.{_≡_, refl, sym, ap, subst, ℕ, _-_, _<_, List,
 use Rattle.device.specs.PowerUp.{powerUp}
 use Rattle.device.specs.declared.Device.{Device}
 use Rattle.calls.specs.Calls.{Step, give}
-use Rattle.calls.specs.Refusals.{stepRefusal}
+use Rattle.calls.specs.CallRefusals.{stepRefusal}
 use Rattle.calls.specs.Served.{stepped}
 use Rattle.calls.specs.Outcome.{outcome}
 use Rattle.pass.specs.Found.{callRefusal}

@@ -12,7 +12,6 @@ use Rattle.ground.specs.Choice.{if, bit}
 use Rattle.ground.specs.Lists.{tabulate}
 use Rattle.ground.proofs.Below.{all, all-at}
 use Rattle.ground.proofs.Lists.{tabulate-ext}
-use Rattle.ground.proofs.Truth.{passed}
 use Rattle.device.specs.declared.Device.{Device}
 use Rattle.wiring.specs.Wiring.{Segment, isSegment, none, glyph, point, first, second, cathode, notDriven, carries, listOf, digitOf, partner, place, ruleAt, wireAt}
 use Rattle.wiring.specs.Table.{segmentEntry, wireEntry}
@@ -26,7 +25,7 @@ use Rattle.glyphs.specs.Masks.{segmentsBy}
 use Rattle.glyphs.proofs.Segments.{segment-by-segment}
 use Rattle.brightness.specs.Dark.{testOn, dark}
 use Rattle.display.specs.Cathode.{displayOf, shownByte, hexMode, fontOf, segmentOn}
-use Rattle.display.specs.Pins.{pinCode, pinOf, pinAt, segmentsRefusal}
+use Rattle.display.specs.Pins.{pinCode, pinOf, pinAt}
 use Rattle.display.specs.declared.Pin.{Pin}
 use Rattle.display.specs.declared.Pin.the-variants.{NotDriven, Lit, Unlit}
 use Rattle.display.specs.ByTable.{allSegments, litSegments, pinBy, tablePin, PinByPin}
@@ -129,7 +128,3 @@ pin-by-pin x d font14 font16 p first-byte second-byte words14 words16 hd hp = ta
 -- the pins of a dark cathode
 pub pins-dark : (x : Device) (d : ℕ) (font14 font16 : List ℕ) → dark x d ≡ true → tabulate 19 (λ p. 0) ≡ tabulate 19 (λ p. pinCode (pinAt x d font14 font16 p))
 pins-dark x d font14 font16 e = tabulate-ext 19 _ _ (λ p hp. rw e)
-
--- a call that is not refused names a cathode
-pub cathode-lt : (d : ℕ) (font14 font16 : List ℕ) → segmentsRefusal d font14 font16 ≡ 0 → d < 8
-cathode-lt d font14 font16 e = ltb-true d 8 (passed (ltb d 8) _ 5 e .0)

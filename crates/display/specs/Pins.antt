@@ -3,10 +3,10 @@
 use Prim.Native.Nat.{ℕ}
 use mathlib.Core.Bool.{Bool}
 use mathlib.Core.List.{List}
-use lib.Dec.{eqb, ltb}
-use lib.ListN.{length}
+use lib.Dec.{eqb}
 use Rattle.ground.specs.Choice.{if}
 use Rattle.ground.specs.Lists.{tabulate}
+use Rattle.refusals.specs.Refusals.{segmentsRefusal}
 use Rattle.device.specs.declared.Device.{Device}
 use Rattle.wiring.specs.Wiring.{Segment, isSegment, Wire, cathode, notDriven, carries, wireAt}
 use Rattle.brightness.specs.Dark.{dark}
@@ -33,11 +33,6 @@ pinOf on (carries s) = if (isSegment s) (if (on s) Lit Unlit) NoSegment
 abbrev pub pinAt : Device → ℕ → List ℕ → List ℕ → ℕ → Pin
 pinAt x d font14 font16 p =
     if (dark x d) NotDriven (pinOf (lit x d font14 font16) (wireAt (displayOf x d) d p))
-
--- 6 for a cathode above 7 or a glyph table not 128 long
-abbrev pub segmentsRefusal : ℕ → List ℕ → List ℕ → ℕ
-segmentsRefusal d font14 font16 =
-    if (ltb d 8) (if (eqb (length font14) 128) (if (eqb (length font16) 128) 0 6) 6) 6
 
 -- the answer: its number, and the pins O0 to O18; where refused no pin is driven
 abbrev pub segmentsOf : Device → ℕ → List ℕ → List ℕ → SegmentAnswer

@@ -1,7 +1,7 @@
 // Passes over a lent chain of records: a call's number, the shift words, the words taken.
 ghost use mathlib.Core.Path.{_≡_};
 ghost use lib.ListN.{length, take};
-ghost use Rattle.calls.specs.Refusals.{allSound};
+ghost use Rattle.calls.specs.CallRefusals.{allSound};
 ghost use Rattle.pass.specs.Found.{toPassIn, inRoom, found, callRefusal};
 ghost use Rattle.pass.specs.OneByOne.{wordsTo, takenTo};
 use device::Device;

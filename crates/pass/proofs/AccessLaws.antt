@@ -15,21 +15,21 @@ use borrow.Author.Tests.{eqb-true, eq-eqb, ne-eqb, le-leb}
 use Rattle.ground.specs.Choice.{if}
 use Rattle.ground.specs.Lists.{tabulate}
 use Rattle.ground.proofs.Lists.{length-tabulate, getD-tabulate, tabulate-ext}
-use Rattle.wire.specs.Bits.{bytesFor}
-use Rattle.wire.specs.Shift.{sizeRefusal, fits, wordsAfter, roomAfter}
+use Rattle.refusals.specs.Refusals.{bytesFor, chainRefusal, soundRefusal, sizeRefusal}
+use Rattle.refusals.proofs.RefusalLaws.{first-zero, found-last}
+use Rattle.wire.specs.Shift.{fits, wordsAfter, roomAfter}
 use Rattle.wire.specs.Wire.{answer, shifted}
 use Rattle.wire.proofs.WholeLaws.{length-shifted}
 use Rattle.device.specs.PowerUp.{powerUp}
 use Rattle.device.specs.Taken.{taken}
 use Rattle.device.specs.declared.Device.{Device}
 use Rattle.calls.specs.Calls.{access}
-use Rattle.calls.specs.Refusals.{chainRefusal, soundRefusal, allSound}
+use Rattle.calls.specs.CallRefusals.{allSound}
 use Rattle.calls.specs.Served.{shiftWords, allTaken}
 use Rattle.calls.specs.Outcome.{number, after, reply, outcome}
-use Rattle.calls.proofs.Accepted.{first-zero}
 use Rattle.pass.specs.Found.{accessByArguments, toPassIn, inRoom, found}
 use Rattle.pass.specs.OneByOne.{wordsTo, takenTo}
-use Rattle.pass.proofs.FoundLaws.{found-last, chain-long, pass-in-le}
+use Rattle.pass.proofs.FoundLaws.{chain-long, pass-in-le}
 use Rattle.pass.proofs.StepLaws.{length-words}
 
 module _ (ds : List Device) (c : ℕ) (sent room : List ℕ) where

@@ -1,5 +1,4 @@
 -- The number as it is found is the number of the call, and the outcome of a call that names a driver by it.
---     found-last                                   a number found after others
 --     pass-below, pass-le, pass-in-below, pass-in-le, in-room-below, in-room-le     a record that is passed is one of the chain
 --     call-found                                   the number found is `callRefusal`
 --     in-range, own-zero                           what a number of 0 tells of the driver and the argument
@@ -8,40 +7,24 @@
 use Prim.Native.Nat.{ℕ, _-_, _≤_, _<_}
 use native.Mathlib.Omega.{arith}
 use mathlib.Core.Bool.{Bool, true, false, _&&_}
-use mathlib.Core.List.{List, [], _∷_, _++_}
-use mathlib.Core.Path.{_≡_, refl, sym, ap, _∙_}
+use mathlib.Core.List.{List, [], _∷_}
+use mathlib.Core.Path.{_≡_, refl, ap, _∙_}
 use lib.Dec.{eqb, leb, ltb}
 use lib.ListN.{length, getD, set, take}
 use lib.Seq.{take-length}
-use borrow.Author.Tests.{eqb-true, ne-eqb, leb-true, ltb-true}
+use borrow.Author.Tests.{ne-eqb, leb-true, ltb-true}
 use Rattle.ground.specs.Choice.{if}
 use Rattle.ground.proofs.Truth.{passed, and-right}
+use Rattle.refusals.specs.Refusals.{chainRefusal, driverRefusal, soundRefusal, firstOf}
+use Rattle.refusals.proofs.RefusalLaws.{first-zero, found-last}
 use Rattle.device.specs.PowerUp.{powerUp}
 use Rattle.device.specs.declared.Device.{Device}
 use Rattle.calls.specs.Calls.{Step, Question, give, ask}
-use Rattle.calls.specs.Refusals.{chainRefusal, driverRefusal, stepRefusal, questionRefusal, soundRefusal, allSound, firstOf}
+use Rattle.calls.specs.CallRefusals.{stepRefusal, questionRefusal, allSound}
 use Rattle.calls.specs.Served.{stepped, answerTo, refusedTo}
 use Rattle.calls.specs.Outcome.{number, after, reply, outcome}
-use Rattle.calls.proofs.Accepted.{first-zero, driver-there}
+use Rattle.calls.proofs.Accepted.{driver-there}
 use Rattle.pass.specs.Found.{byArguments, toPass, toPassIn, inRoom, found, callRefusal}
-
--- the last number of a list needs no test
-pub first-last : (k : ℕ) → firstOf (k ∷ []) ≡ k
-first-last k = go (eqb k 0) refl
-  where
-    go : (b : Bool) → eqb k 0 ≡ b → if b 0 k ≡ k
-    go true e = sym (eqb-true k 0 e)
-    go false e = refl
-
--- the first number of a list with one more: that of the list, or the one more
-pub found-last : (ks : List ℕ) (d : ℕ) → if (eqb (firstOf ks) 0) d (firstOf ks) ≡ firstOf (ks ++ d ∷ [])
-found-last [] d = sym (first-last d)
-found-last (k ∷ ks) d = go (eqb k 0) refl (found-last ks d)
-  where
-    go : (z : Bool) → eqb k 0 ≡ z → if (eqb (firstOf ks) 0) d (firstOf ks) ≡ firstOf (ks ++ d ∷ [])
-        → if (eqb (if z (firstOf ks) k) 0) d (if z (firstOf ks) k) ≡ if z (firstOf (ks ++ d ∷ [])) k
-    go true e r = r
-    go false e r = rw e
 
 -- ---- a record that is passed is one of the chain
 pub pass-below : (first n i : ℕ) → i < toPass first n → i < n

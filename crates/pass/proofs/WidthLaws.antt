@@ -17,7 +17,7 @@ use borrow.Author.Tests.{lt-ltb, le-ltb}
 use Rattle.device.specs.PowerUp.{powerUp}
 use Rattle.device.specs.Sound.{soundOf}
 use Rattle.device.specs.declared.Device.{Device}
-use Rattle.calls.specs.Refusals.{allSound}
+use Rattle.calls.specs.CallRefusals.{allSound}
 use Rattle.pass.specs.Widths.{greater, firstBytes, lastBytes, noWidths, widthsWith, widthsOf, fit, Bytes, AllBytes}
 use Rattle.pass.specs.declared.Widths.{Widths}
 

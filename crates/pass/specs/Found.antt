@@ -6,9 +6,9 @@ use mathlib.Core.List.{List, [], _∷_}
 use lib.Dec.{eqb, leb}
 use lib.ListN.{length}
 use Rattle.ground.specs.Choice.{if}
-use Rattle.wire.specs.Shift.{sizeRefusal}
+use Rattle.refusals.specs.Refusals.{chainRefusal, driverRefusal, soundRefusal, firstOf, sizeRefusal}
 use Rattle.device.specs.declared.Device.{Device}
-use Rattle.calls.specs.Refusals.{chainRefusal, driverRefusal, soundRefusal, allSound, firstOf}
+use Rattle.calls.specs.CallRefusals.{allSound}
 
 -- the number of a call that names a driver, by its arguments; own is that of what the driver is given or asked
 abbrev pub byArguments : ℕ → ℕ → ℕ → ℕ

@@ -2,8 +2,9 @@
 ghost use mathlib.Core.Path.{_≡_};
 ghost use lib.Dec.{eqb};
 ghost use Rattle.ground.specs.Choice.{if};
+ghost use Rattle.refusals.specs.Refusals.{chainRefusal, driverRefusal, soundRefusal};
 ghost use Rattle.calls.specs.Calls.{scan, levels as pinLevels, clocks as masterClocks, plane, brightness, shown, interrupt};
-ghost use Rattle.calls.specs.Refusals.{chainRefusal, driverRefusal, stepRefusal, soundRefusal, questionRefusal};
+ghost use Rattle.calls.specs.CallRefusals.{stepRefusal, questionRefusal};
 ghost use Rattle.pass.specs.Widths.{eightBytes, twoBytes, greater, noWidths, widthsWith, fit};
 ghost use Rattle.pass.specs.Found.{byArguments, accessByArguments, toPass, toPassIn, inRoom, found};
 use device::Device;

@@ -18,20 +18,22 @@ use borrow.Author.Tests.{ne-eqb}
 use Rattle.ground.specs.Choice.{if}
 use Rattle.ground.specs.Lists.{tabulate}
 use Rattle.ground.proofs.Lists.{tabulate-ext}
-use Rattle.wire.specs.Shift.{sizeRefusal, wordsAfter, roomAfter}
+use Rattle.refusals.specs.Refusals.{chainRefusal, driverRefusal, soundRefusal, sizeRefusal}
+use Rattle.refusals.proofs.RefusalLaws.{found-last}
+use Rattle.wire.specs.Shift.{wordsAfter, roomAfter}
 use Rattle.device.specs.PowerUp.{powerUp}
 use Rattle.device.specs.Taken.{taken}
 use Rattle.device.specs.declared.Device.{Device}
 use Rattle.display.specs.Pins.{segmentsOf}
 use Rattle.display.specs.declared.SegmentAnswer.{SegmentAnswer}
 use Rattle.calls.specs.Calls.{Step, Call, access, give, ask, segments}
-use Rattle.calls.specs.Refusals.{chainRefusal, driverRefusal, stepRefusal, questionRefusal, soundRefusal, allSound}
+use Rattle.calls.specs.CallRefusals.{stepRefusal, questionRefusal, allSound}
 use Rattle.calls.specs.Served.{stepped, refusedBack}
 use Rattle.calls.specs.Outcome.{number, after, reply, Outcome}
 use Rattle.calls.proofs.Accepted.{after-zero, reply-zero}
 use Rattle.pass.specs.Found.{byArguments, accessByArguments, toPass, found, callRefusal}
 use Rattle.pass.specs.OneByOne.{wordsTo, takenTo}
-use Rattle.pass.proofs.FoundLaws.{found-last, in-range, own-zero}
+use Rattle.pass.proofs.FoundLaws.{in-range, own-zero}
 use Rattle.pass.proofs.AccessLaws.{access-number, access-whole}
 use Rattle.row.specs.Row.{records, numberOn, replyOn, doneOn}
 use Rattle.row.specs.declared.Row.{Row}

@@ -4,7 +4,7 @@ ghost use mathlib.Core.Path.{_≡_};
 ghost use lib.ListN.{length, getD, set, take, replicate};
 ghost use Rattle.device.specs.PowerUp.{powerUp};
 ghost use Rattle.calls.specs.Calls.{access as accessCall, give, ask, scan as scanStep, levels as levelsStep, clocks as clocksStep, segments as segmentsQuestion};
-ghost use Rattle.calls.specs.Refusals.{allSound};
+ghost use Rattle.calls.specs.CallRefusals.{allSound};
 ghost use Rattle.pass.specs.Widths.{fit};
 ghost use Rattle.pass.specs.Found.{found, callRefusal};
 ghost use Rattle.pass.specs.OneByOne.{wordsTo, takenTo};

@@ -5,7 +5,7 @@ use Rattle.ground.specs.Lists.{tabulate}
 use Rattle.wire.specs.Bits.{bits, value, unpack, byteAt, pack, wordAt}
 use Rattle.wire.specs.Wire.{string, words, wire, answer, shifted}
 use Rattle.device.specs.Taken.{taken}
-use Rattle.calls.specs.Refusals.{allSound}
+use Rattle.calls.specs.CallRefusals.{allSound}
 use Rattle.calls.specs.Outcome.{number, after, reply}
 use Rattle.script.specs.Lines.{each}
 use Rattle.script.specs.Format.{itemsAfter}

@@ -11,8 +11,8 @@ use lib.ListN.{length, take, drop, replicate, length-append, length-take, length
 use lib.Seq.{length-take-le, take-all, take-at}
 use borrow.Author.Tests.{ne-eqb}
 use Rattle.ground.specs.Choice.{if}
-use Rattle.wire.specs.Bits.{bytesFor}
-use Rattle.wire.proofs.SizeLaws.{served as sizes-fit}
+use Rattle.refusals.specs.Refusals.{bytesFor}
+use Rattle.refusals.proofs.RefusalLaws.{size-served as sizes-fit}
 use Rattle.device.specs.PowerUp.{powerUp}
 use Rattle.device.specs.declared.Device.{Device}
 use Rattle.display.specs.declared.SegmentAnswer.{SegmentAnswer}

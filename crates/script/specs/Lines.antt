@@ -6,7 +6,7 @@ use mathlib.Core.List.{List, [], _∷_, _++_}
 use lib.Dec.{eqb, ltb}
 use lib.ListN.{take}
 use Rattle.ground.specs.Choice.{if}
-use Rattle.wire.specs.Bits.{bytesFor}
+use Rattle.refusals.specs.Refusals.{bytesFor}
 use Rattle.display.specs.Pins.{pinCode}
 use Rattle.display.specs.declared.Pin.the-variants.{Cathode, Lit, Unlit}
 use Rattle.calls.specs.Calls.{Call, access, give, ask}

@@ -5,10 +5,10 @@ use mathlib.Core.List.{List, [], _∷_, _++_}
 use lib.Dec.{eqb, ltb}
 use lib.ListN.{length, replicate}
 use Rattle.ground.specs.Choice.{if}
+use Rattle.refusals.specs.Refusals.{chainRefusal}
 use Rattle.device.specs.PowerUp.{powerUp}
 use Rattle.device.specs.declared.Device.{Device}
 use Rattle.calls.specs.Calls.{Call}
-use Rattle.calls.specs.Refusals.{chainRefusal}
 use Rattle.calls.specs.Outcome.{number, after, reply}
 use Rattle.script.specs.Lines.{chainLine, refusalLine, lineFor}
 use Rattle.script.specs.Format.{Item, chain, call, malformed, items}

@@ -7,7 +7,8 @@ use mathlib.Core.List.{List, _++_}
 use mathlib.Core.Path.{_≡_, sym, ap, _∙_}
 use lib.ListN.{length, take, drop, length-append}
 use lib.Seq.{drop-append-add, drop-drop, take-append-add, take-at}
-use Rattle.wire.specs.Bits.{unpack, pack, bytesFor}
+use Rattle.refusals.specs.Refusals.{bytesFor}
+use Rattle.wire.specs.Bits.{unpack, pack}
 use Rattle.wire.specs.Wire.{words, wire, answer, shifted}
 use Rattle.wire.specs.Line.{wordBytes}
 use Rattle.wire.proofs.BitLaws.{length-unpack, unpack-append}

@@ -12,7 +12,8 @@ use lib.Pow.{field}
 use lib.Seq.{drop-at, drop-cons, drop-drop, length-take-le, set-split, take-add, take-append-add, take-append-le, take-append-seam}
 use Rattle.ground.specs.Lists.{tabulate}
 use Rattle.ground.proofs.Lists.{tabulate-ext}
-use Rattle.wire.specs.Bits.{bits, value, unpack, byteAt, pack, bytesFor}
+use Rattle.refusals.specs.Refusals.{bytesFor}
+use Rattle.wire.specs.Bits.{bits, value, unpack, byteAt, pack}
 use Rattle.wire.proofs.BitLaws.{length-bits, value-bits, value-take, value-drop, value-append, value-zeros, length-unpack, unpack-append, drop-unpack, front-16}
 use Rattle.wire.proofs.FillLaws.{tabulate-take}
 

@@ -2,7 +2,7 @@
 -- Assumes nothing.
 use Prim.Native.Nat.{ℕ, _*_, _<_, _≤_}
 use mathlib.Core.Path.{_≡_}
-use Rattle.wire.specs.Shift.{sizeRefusal}
+use Rattle.refusals.specs.Refusals.{sizeRefusal}
 
 -- the lowest that applies, for every access
 pub record Sizes : Type 0 where

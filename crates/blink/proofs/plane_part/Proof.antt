@@ -2,8 +2,8 @@
 use native.Mathlib.Omega.{arith}
 use mathlib.Core.Path.{sym, _∙_}
 use borrow.Author.Tests.{ne-eqb}
-use Rattle.blink.proofs.Part.{Served, served}
 use borrow.Author.Needs.{needs}
+use Rattle.refusals.proofs.RefusalLaws.{PlaneServed as Served, plane-served as served}
 use Rattle.blink.proofs.plane_part.Statement.{statement}
 use Rattle.blink.proofs.plane_part.Tie as tie
 

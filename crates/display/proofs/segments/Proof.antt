@@ -2,7 +2,7 @@
 use Rattle.ground.specs.Lists.{tabulate}
 use borrow.Author.Tests.{ne-eqb}
 use mathlib.Core.Path.{sym, _∙_}
-use Rattle.display.proofs.Wires.{cathode-lt}
+use Rattle.refusals.proofs.RefusalLaws.{segments-served}
 use borrow.Author.Needs.{needs}
 use Rattle.display.proofs.segments.Statement.{statement}
 use Rattle.display.proofs.segments.Tie as tie
@@ -13,7 +13,7 @@ segments-refusal-requires c κs = search needs
 pins-shown-requires : tie.Need-pins-shown-requires
 pins-shown-requires c κs =
     let a = c .before .before .before .before .args in
-    cathode-lt (a .cathode) (a .font14 .now) (a .font16 .now) (sym (c .before .segments-refusal .ensures) ∙ c .if1 .taken)
+    segments-served (a .cathode) (a .font14 .now) (a .font16 .now) (sym (c .before .segments-refusal .ensures) ∙ c .if1 .taken)
 
 returns : tie.Need-returns
 returns c = rw (c .pins-shown .ensures, c .before .before .segments-refusal .ensures, sym (c .before .before .segments-refusal .ensures) ∙ c .before .if1 .taken)

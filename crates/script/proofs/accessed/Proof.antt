@@ -5,7 +5,7 @@ use mathlib.Core.Path.{sym, ap, _∙_}
 use lib.Seq.{length-take-le}
 use lib.ListN.{length, drop, length-drop}
 use borrow.Author.Needs.{needs}
-use Rattle.wire.specs.Bits.{bytesFor}
+use Rattle.refusals.specs.Refusals.{bytesFor}
 use Rattle.calls.specs.Calls.{access}
 use Rattle.row.specs.declared.Done.{Done}
 use Rattle.script.specs.Format.{word, answerRoom}

@@ -6,9 +6,9 @@ use mathlib.Core.Path.{_≡_, refl, sym, _∙_}
 use lib.ListN.{length}
 use borrow.Author.Tests.{eq-eqb, ne-eqb, le-leb, lt-leb}
 use borrow.Author.Needs.{needs}
-use Rattle.wire.specs.Bits.{bytesFor}
+use Rattle.refusals.specs.Refusals.{bytesFor}
+use Rattle.refusals.proofs.RefusalLaws.{size-served as served}
 use Rattle.wire.specs.Shift.{fits}
-use Rattle.wire.proofs.SizeLaws.{served}
 use Rattle.wire.proofs.shift.Statement.{statement}
 use Rattle.wire.proofs.shift.Tie as tie
 

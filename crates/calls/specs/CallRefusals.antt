@@ -1,26 +1,13 @@
--- Document 01, "Numbers a call may give": 1 to 7, in the table's order.
+-- Document 01, "Numbers a call may give": which rows of the table a call is tested by.
 -- Assumes nothing.
 use Prim.Native.Nat.{ℕ}
 use mathlib.Core.Bool.{Bool, true, _&&_}
 use mathlib.Core.List.{List, [], _∷_}
-use lib.Dec.{eqb, leb, ltb}
 use lib.ListN.{length}
-use Rattle.ground.specs.Choice.{if}
-use Rattle.wire.specs.Shift.{sizeRefusal}
-use Rattle.blink.specs.Part.{planeRefusal}
+use Rattle.refusals.specs.Refusals.{chainRefusal, driverRefusal, segmentsRefusal, levelsRefusal, brightnessRefusal, planeRefusal, soundRefusal, firstOf, sizeRefusal}
 use Rattle.device.specs.Sound.{soundOf}
 use Rattle.device.specs.declared.Device.{Device}
-use Rattle.brightness.specs.Brightness.{brightnessRefusal}
-use Rattle.display.specs.Pins.{segmentsRefusal}
 use Rattle.calls.specs.Calls.{Step, scan, levels, clocks, Question, plane, planeShown, segments, brightness, shown, interrupt, Call, access, give, ask}
-
--- 1: the chain has 0 or more than 16 records
-abbrev pub chainRefusal : ℕ → ℕ
-chainRefusal n = if (ltb 0 n && ltb n 17) 0 1
-
--- 2: driver number j not in 1..n
-abbrev pub driverRefusal : ℕ → ℕ → ℕ
-driverRefusal n j = if (ltb 0 j && leb j n) 0 2
 
 -- 2, by the driver that a call names; an access names none
 abbrev pub namedRefusal : ℕ → Call → ℕ
@@ -37,7 +24,7 @@ bytesRefusal (ask j q) = 0
 -- 6: pin levels above 31
 abbrev pub stepRefusal : Step → ℕ
 stepRefusal (scan a b c d) = 0
-stepRefusal (levels l) = if (ltb 31 l) 6 0
+stepRefusal (levels l) = levelsRefusal l
 stepRefusal (clocks k) = 0
 
 -- 6: a cathode above 7, a digit above 15, a range's last digit below its first, a lent plane not 16 long, a glyph table not 128 long
@@ -55,19 +42,10 @@ argumentRefusal (access c sent room) = 0
 argumentRefusal (give j s) = stepRefusal s
 argumentRefusal (ask j q) = questionRefusal q
 
--- 7: some record of the chain isn't sound
-abbrev pub soundRefusal : Bool → ℕ
-soundRefusal sound = if sound 0 7
-
 -- every record is sound
 unfoldable pub allSound : List Device → Bool
 allSound [] = true
 allSound (d ∷ ds) = soundOf d && allSound ds
-
--- the first number of a list that isn't 0, else 0
-abbrev pub firstOf : List ℕ → ℕ
-firstOf [] = 0
-firstOf (k ∷ ks) = if (eqb k 0) (firstOf ks) k
 
 -- the lowest of 1 to 7 that applies to a call on n records, by whether these are sound
 abbrev pub refusalBy : ℕ → Bool → Call → ℕ

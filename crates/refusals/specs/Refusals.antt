@@ -1,0 +1,61 @@
+-- Document 01, "Numbers a call may give": 1 to 7, in the table's order. Each is its number where the row applies, else 0.
+-- Assumes nothing.
+use Prim.Native.Nat.{ℕ, _+_, _/_}
+use mathlib.Core.Bool.{Bool, _&&_}
+use mathlib.Core.List.{List, [], _∷_}
+use lib.Dec.{eqb, leb, ltb}
+use lib.ListN.{length}
+use Rattle.ground.specs.Choice.{if}
+
+-- c clocks need c/8 bytes, rounded up
+abbrev pub bytesFor : ℕ → ℕ
+bytesFor c = (c + 7) / 8
+
+-- 1: the chain has 0 or more than 16 records
+abbrev pub chainRefusal : ℕ → ℕ
+chainRefusal n = if (ltb 0 n && ltb n 17) 0 1
+
+-- 2: driver number j not in 1..n
+abbrev pub driverRefusal : ℕ → ℕ → ℕ
+driverRefusal n j = if (ltb 0 j && leb j n) 0 2
+
+-- 3: more than 4,096 clocks in one access
+abbrev pub clocksRefusal : ℕ → ℕ
+clocksRefusal c = if (ltb 4096 c) 3 0
+
+-- 4: sent bytes fewer than the clocks need
+abbrev pub sentRefusal : ℕ → ℕ → ℕ
+sentRefusal c sent = if (ltb sent (bytesFor c)) 4 0
+
+-- 5: room for answer bytes fewer than the clocks need
+abbrev pub roomRefusal : ℕ → ℕ → ℕ
+roomRefusal c room = if (ltb room (bytesFor c)) 5 0
+
+-- 6: a cathode above 7, or a glyph table not 128 long
+abbrev pub segmentsRefusal : ℕ → List ℕ → List ℕ → ℕ
+segmentsRefusal d font14 font16 = if (ltb d 8 && eqb (length font14) 128 && eqb (length font16) 128) 0 6
+
+-- 6: pin levels above 31
+abbrev pub levelsRefusal : ℕ → ℕ
+levelsRefusal l = if (ltb 31 l) 6 0
+
+-- 6: a digit alone above 15
+abbrev pub brightnessRefusal : ℕ → ℕ
+brightnessRefusal i = if (ltb i 16) 0 6
+
+-- 6: a digit of a range above 15, its last digit below its first, or a lent plane not 16 long
+abbrev pub planeRefusal : List ℕ → List ℕ → ℕ → ℕ → ℕ
+planeRefusal p0 p1 first last = if (eqb (length p0) 16 && eqb (length p1) 16 && ltb last 16 && leb first last) 0 6
+
+-- 7: some record of the chain isn't sound
+abbrev pub soundRefusal : Bool → ℕ
+soundRefusal sound = if sound 0 7
+
+-- the first number of a list that isn't 0, else 0: the lowest that applies is given
+abbrev pub firstOf : List ℕ → ℕ
+firstOf [] = 0
+firstOf (k ∷ ks) = if (eqb k 0) (firstOf ks) k
+
+-- 3 to 5, of an access
+abbrev pub sizeRefusal : ℕ → ℕ → ℕ → ℕ
+sizeRefusal c sent room = firstOf (clocksRefusal c ∷ sentRefusal c sent ∷ roomRefusal c room ∷ [])

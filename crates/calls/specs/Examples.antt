@@ -8,7 +8,7 @@ use Rattle.device.specs.PowerUp.{powerUp}
 use Rattle.device.specs.Record.{withPins, withBlink}
 use Rattle.device.specs.Examples.{rows as driverRows}
 use Rattle.device.specs.declared.Device.{Device}
-use Rattle.display.specs.Examples.{rows as displayRows}
+use Rattle.display.specs.Examples.{WireExamples, rows as displayRows}
 use Rattle.calls.specs.Calls.{scan, levels, Question, plane, segments, brightness, shown, interrupt, Call, access, give, ask}
 use Rattle.calls.specs.Served.{recordOf}
 use Rattle.calls.specs.Outcome.{number, reply}
@@ -75,7 +75,7 @@ chainRows =
     )
     ∷ []
 
--- all examples: 1 to 5 and 12 on a chain, 1, 8 and 9 on one driver, 6, 7, 10 and 11 of the display
+-- 1 to 5 and 12 on a chain, 1, 8 and 9 on one driver, 6 and 7 of the display
 abbrev pub rows : List (List ℕ × List ℕ)
 rows = chainRows ++ driverRows ++ displayRows
 
@@ -151,5 +151,6 @@ answerRows =
 -- what the definitions give is what the document says
 pub record Examples : Type 0 where
   pub bench : Agree rows
+  pub wires : WireExamples
   pub numbers : Agree numberRows
   pub answers : Agree answerRows

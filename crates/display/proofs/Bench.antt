@@ -3,15 +3,18 @@
 use mathlib.Core.Path.{refl}
 use Rattle.ground.specs.Lists.{Agree}
 use Rattle.device.specs.Taken.{taken}
-use Rattle.display.specs.Examples.{rows, segmentRows, Examples}
+use Rattle.display.specs.Examples.{rows, WireExamples, segmentRows, Examples}
 
 bench : Agree rows
 unfolding taken
 bench = refl
+
+bench-wires : WireExamples
+bench-wires = refl
 
 bench-segments : Agree segmentRows
 unfolding taken
 bench-segments = refl
 
 pub examples : Examples
-examples = record { bench = bench; segments = bench-segments }
+examples = record { bench = bench; wires = bench-wires; segments = bench-segments }

@@ -11,8 +11,9 @@ use Rattle.ground.specs.Choice.{if, bit}
 use Rattle.ground.proofs.Below.{all, all-at}
 use Rattle.ground.proofs.Bits.{low-bit, high-bit, not-bit}
 use Rattle.ground.proofs.Truth.{same}
-use Rattle.wiring.specs.Wiring.{Segment, isSegment, none, glyph, point, first, second, Wire, cathode, notDriven, carries, wireAt}
-use Rattle.wiring.specs.Table.{segmentEntry, wireEntry}
+use Rattle.wiring.specs.Segments.{Light, nothing, glyph, point, first, second, lightOf, isLight, isSegment}
+use Rattle.wiring.specs.Wiring.{Wire, cathode, notDriven, carries, wireAt}
+use Rattle.wiring.specs.Table.{lightEntry, wireEntry}
 use Rattle.wiring.specs.PackedRows.{byteOf, packed, litNumber, entryBit, packedWires, packedPins}
 use Rattle.wiring.specs.declared.Display.{Display}
 use Rattle.wiring.specs.declared.Display.the-variants.{Sixteen, Fourteen, SevenPair}
@@ -118,15 +119,15 @@ picked-bit u n h =
     rw (lt-ltb n 17 h, one-byte u (2 ^ (n % 8)) (n / 8) (omega arith))
     (masked (byteOf u (n / 8)) (n % 8) (omega arith) (omega arith) ∙ ap not (byte-bit u n))
 
--- none, or a segment with a bit
-abbrev pub numbered : Segment → Bool
-numbered s = not (isSegment s) || ltb (segmentEntry s) 17
+-- what lights a segment has the number of a bit
+abbrev pub numbered : Light → Bool
+numbered l = not (isLight l) || ltb (lightEntry l) 17
 
--- a pin that carries one of these, or no segment
+-- a pin that carries such a segment, or none
 abbrev numbered-wire : Wire → Bool
 numbered-wire cathode = true
 numbered-wire notDriven = true
-numbered-wire (carries s) = numbered s
+numbered-wire (carries s) = numbered (lightOf s)
 
 -- the number of a pin, by the segments that aren't lit, is its number by those that are
 module _ (segments : ℕ) (hs : segments < 2 ^ 64) where
@@ -145,14 +146,17 @@ module _ (segments : ℕ) (hs : segments < 2 ^ 64) where
       go true = refl
       go false = refl
 
+  light-pin : (l : Light) → numbered l ≡ true → number (if (isLight l) 2 4) (lightEntry l) ≡ pinCode (pinBy segments (lightEntry l))
+  light-pin nothing e = simp and-zero-r
+  light-pin (glyph n) e = segment-pin n e
+  light-pin point e = segment-pin 16 e
+  light-pin (first n) e = segment-pin n e
+  light-pin (second n) e = segment-pin (n + 8) e
+
   wire-pin : (w : Wire) → numbered-wire w ≡ true → number (litNumber w) (wireEntry w) ≡ pinCode (pinBy segments (wireEntry w))
   wire-pin cathode e = simp and-zero-r
   wire-pin notDriven e = simp and-zero-r
-  wire-pin (carries none) e = simp and-zero-r
-  wire-pin (carries (glyph n)) e = segment-pin n e
-  wire-pin (carries point) e = segment-pin 16 e
-  wire-pin (carries (first n)) e = segment-pin n e
-  wire-pin (carries (second n)) e = segment-pin (n + 8) e
+  wire-pin (carries s) e = light-pin (lightOf s) e
 
 -- every pin of a cathode is one of these
 tested-wires : (k : Display) → all (λ d. all (λ p. numbered-wire (wireAt k d p)) 19) 8 ≡ true

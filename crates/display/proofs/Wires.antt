@@ -2,7 +2,7 @@
 -- Assumes nothing.
 use Prim.Native.Nat.{ℕ, _+_, _-_, _^_, _<_}
 use native.Mathlib.Omega.{arith}
-use mathlib.Core.Bool.{Bool, true, false, not, _&&_, _||_}
+use mathlib.Core.Bool.{Bool, true, false, _||_}
 use mathlib.Core.List.{List}
 use mathlib.Core.Path.{_≡_, refl, ap, _∙_}
 use lib.Dec.{eqb, ltb}
@@ -13,8 +13,9 @@ use Rattle.ground.specs.Lists.{tabulate}
 use Rattle.ground.proofs.Below.{all, all-at}
 use Rattle.ground.proofs.Lists.{tabulate-ext}
 use Rattle.device.specs.declared.Device.{Device}
-use Rattle.wiring.specs.Wiring.{Segment, isSegment, none, glyph, point, first, second, cathode, notDriven, carries, listOf, digitOf, partner, place, ruleAt, wireAt}
-use Rattle.wiring.specs.Table.{segmentEntry, wireEntry}
+use Rattle.wiring.specs.Segments.{Segment, none, listOf, Light, nothing, glyph, point, first, second, lightOf, isLight}
+use Rattle.wiring.specs.Wiring.{cathode, notDriven, carries, digitOf, partner, place, ruleAt, wireAt}
+use Rattle.wiring.specs.Table.{lightEntry, segmentEntry, wireEntry}
 use Rattle.wiring.specs.PackedRows.{packedRow}
 use Rattle.wiring.specs.declared.Display.{Display}
 use Rattle.wiring.specs.declared.Display.the-variants.{Sixteen, Fourteen, SevenPair}
@@ -27,7 +28,7 @@ use Rattle.brightness.specs.Dark.{testOn, dark}
 use Rattle.display.specs.Cathode.{displayOf, shownByte, hexMode, fontOf, segmentOn}
 use Rattle.display.specs.Pins.{pinCode, pinOf, pinAt}
 use Rattle.display.specs.declared.Pin.{Pin}
-use Rattle.display.specs.declared.Pin.the-variants.{NotDriven, Lit, Unlit}
+use Rattle.display.specs.declared.Pin.the-variants.{NotDriven, Lit, Unlit, NoSegment}
 use Rattle.display.specs.ByTable.{allSegments, litSegments, pinBy, tablePin, PinByPin}
 use Rattle.display.specs.PackedPins.{pinsBy}
 use Rattle.display.proofs.Packing.{numbered, row-pin}
@@ -46,25 +47,25 @@ bit-pin true n segments on h e = rw (h, all-at (λ k. bit k allSegments) 17 refl
 bit-pin false n segments on h e = rw (h, e)
 
 -- the segments of a list are numbered
-listed : (k : Display) → all (λ r. numbered (getD (listOf k) r none)) 17 ≡ true
+listed : (k : Display) → all (λ r. numbered (lightOf (getD (listOf k) r none))) 17 ≡ true
 listed Sixteen = refl
 listed Fourteen = refl
 listed SevenPair = refl
 
-module _ (t : Bool) (segments : ℕ) (on : Segment → Bool) where
-  shown : (s : Segment) → numbered s ≡ true → bit (segmentEntry s) segments ≡ on s → pinBy (if t allSegments segments) (segmentEntry s) ≡ pinOf (λ q. isSegment q && (t || on q)) (carries s)
-  shown none h e = refl
-  shown (glyph n) h e = bit-pin t n segments _ h e
-  shown point h e = bit-pin t 16 segments _ h e
-  shown (first n) h e = bit-pin t n segments _ h e
-  shown (second n) h e = bit-pin t (n + 8) segments _ h e
+module _ (t : Bool) (segments : ℕ) where
+  shown : (l : Light) (on : Bool) → numbered l ≡ true → bit (lightEntry l) segments ≡ on → pinBy (if t allSegments segments) (lightEntry l) ≡ if (isLight l) (if (t || on) Lit Unlit) NoSegment
+  shown nothing on h e = refl
+  shown (glyph n) on h e = bit-pin t n segments on h e
+  shown point on h e = bit-pin t 16 segments on h e
+  shown (first n) on h e = bit-pin t n segments on h e
+  shown (second n) on h e = bit-pin t (n + 8) segments on h e
 
   -- the cathode and its partner carry no segment
-  wired-pin : (b c : Bool) (s : Segment) → numbered s ≡ true → bit (segmentEntry s) segments ≡ on s
-      → pinBy (if t allSegments segments) (wireEntry (if b cathode (if c notDriven (carries s)))) ≡ pinOf (λ q. isSegment q && (t || on q)) (if b cathode (if c notDriven (carries s)))
-  wired-pin true c s h e = refl
-  wired-pin false true s h e = refl
-  wired-pin false false s h e = shown s h e
+  wired-pin : (on : Segment → Bool) (b c : Bool) (s : Segment) → numbered (lightOf s) ≡ true → bit (segmentEntry s) segments ≡ on s
+      → pinBy (if t allSegments segments) (wireEntry (if b cathode (if c notDriven (carries s)))) ≡ pinOf (λ q. t || on q) (if b cathode (if c notDriven (carries s)))
+  wired-pin on true c s h e = refl
+  wired-pin on false true s h e = refl
+  wired-pin on false false s h e = shown (lightOf s) (on s) h e
 
 font-words : (k : Display) (font14 font16 : List ℕ) → ((i : ℕ) → getD font14 i 0 < 65536) → ((i : ℕ) → getD font16 i 0 < 65536) → (i : ℕ) → getD (fontOf k font14 font16) i 0 < 65536
 font-words Sixteen font14 font16 h14 h16 = h16
@@ -93,18 +94,14 @@ module _ (x : Device) (d : ℕ) (font14 font16 : List ℕ)
       (eqb p d)
       (eqb p (partner d))
       (getD (listOf k) (place d p) none)
-      (all-at (λ r. numbered (getD (listOf k) r none)) 17 (listed k) (place d p) h)
+      (all-at (λ r. numbered (lightOf (getD (listOf k) r none))) 17 (listed k) (place d p) h)
       (segment-by-segment k (hexMode x d) font (shownByte x) d (place d p) first-byte second-byte (font-words k font14 font16 words14 words16) h)
 
   abbrev by-table : ℕ → Pin
   by-table p = pinBy (litSegments x d font14 font16) (wireEntry (ruleAt k d p))
 
   pin-at : (p : ℕ) → p < 19 → if (dark x d) NotDriven (by-table p) ≡ pinAt x d font14 font16 p
-  pin-at p hp = rw (lt-ltb d 8 hd, lt-ltb p 19 hp) (go (dark x d))
-    where
-      go : (b : Bool) → if b NotDriven (by-table p) ≡ if b NotDriven (pinOf (λ s. not b && segmentOn x d font14 font16 s) (ruleAt k d p))
-      go true = refl
-      go false = rule-pin p hp
+  pin-at p hp = rw (lt-ltb d 8 hd, lt-ltb p 19 hp, rule-pin p hp)
 
   table-pin : (p : ℕ) → p < 19 → tablePin x d font14 font16 p ≡ pinAt x d font14 font16 p
   table-pin p hp = rw (wired .entries k d p hd hp) (pin-at p hp)

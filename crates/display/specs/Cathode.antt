@@ -1,18 +1,19 @@
--- Document 01, "Segments and brightness": the display of a cathode, and when a segment of it is lit.
+-- Document 01, "Segments and brightness": the display of a cathode, and the segments of it that are on.
 -- Assumes nothing.
 use Prim.Native.Nat.{ℕ}
-use mathlib.Core.Bool.{Bool, not, _&&_, _||_}
+use mathlib.Core.Bool.{Bool, _||_}
 use mathlib.Core.List.{List}
 use lib.ListN.{getD}
 use Rattle.ground.specs.Choice.{if, bit}
 use Rattle.digits.specs.Digits.{planeOf}
 use Rattle.device.specs.Steps.{shownPlane}
 use Rattle.device.specs.declared.Device.{Device}
-use Rattle.wiring.specs.Wiring.{Segment, isSegment, digitOf}
+use Rattle.wiring.specs.Segments.{Segment}
+use Rattle.wiring.specs.Wiring.{digitOf}
 use Rattle.wiring.specs.declared.Display.{Display}
 use Rattle.wiring.specs.declared.Display.the-variants.{Sixteen, Fourteen, SevenPair}
 use Rattle.glyphs.specs.Glyphs.{litBy}
-use Rattle.brightness.specs.Dark.{testOn, dark}
+use Rattle.brightness.specs.Dark.{testOn}
 
 -- bit d of the digit type set is a 14-segment digit (Tables 12 and 13); clear it is 16- or 7-segment, and bit d of the fitted byte set means a
 -- 7-segment pair
@@ -37,11 +38,7 @@ fontOf Sixteen font14 font16 = font16
 fontOf Fourteen font14 font16 = font14
 fontOf SevenPair font14 font16 = font16
 
--- a segment of cathode d is on: every one in display test, else by the byte of its own digit; none is no segment
+-- a segment of cathode d is on, where the cathode isn't dark: every one in display test, else by the byte of its own digit
 abbrev pub segmentOn : Device → ℕ → List ℕ → List ℕ → Segment → Bool
 segmentOn x d font14 font16 s =
-    isSegment s && (testOn x || litBy (hexMode x d) (fontOf (displayOf x d) font14 font16) (shownByte x (digitOf d s)) s)
-
--- a segment of cathode d is lit: it is on, and the cathode isn't dark
-abbrev pub lit : Device → ℕ → List ℕ → List ℕ → Segment → Bool
-lit x d font14 font16 s = not (dark x d) && segmentOn x d font14 font16 s
+    testOn x || litBy (hexMode x d) (fontOf (displayOf x d) font14 font16) (shownByte x (digitOf d s)) s

@@ -8,24 +8,21 @@ use Rattle.device.specs.Record.{withFitted}
 use Rattle.device.specs.Taken.{taken}
 use Rattle.device.specs.Table15.{after}
 use Rattle.device.specs.declared.Device.{Device}
-use Rattle.wiring.specs.Wiring.{Segment, glyph, point, first, cathode, notDriven, carries, wireAt}
-use Rattle.wiring.specs.Table.{wireEntry}
+use Rattle.ground.specs.Choice.{if}
+use Rattle.wiring.specs.Segments.{Segment, a1, a2, b, dp, 1a, 1b, 1c, 1d, 1e, 1f, 1g, 1dp}
+use Rattle.wiring.specs.Wiring.{Wire, cathode, notDriven, carries, wireAt}
 use Rattle.brightness.specs.Brightness.{brightnessOf}
 use Rattle.display.specs.Cathode.{displayOf}
-use Rattle.display.specs.Pins.{pinCode, pinAt}
+use Rattle.display.specs.Pins.{pinCode, pinAt, lit}
 use Rattle.display.specs.declared.Pin.the-variants.{NotDriven, Cathode, Lit, Unlit, NoSegment}
-
--- what pins carry for a cathode, by number
-abbrev pub wiresOf : Device → ℕ → List ℕ → List ℕ
-wiresOf x d pins = map (λ p. wireEntry (wireAt (displayOf x d) d p)) pins
 
 -- pins of a 7-segment pair, by number; it uses no glyph table
 abbrev pub pinsOf : Device → ℕ → List ℕ → List ℕ
 pinsOf x d pins = map (λ p. pinCode (pinAt x d [] [] p)) pins
 
--- the number of a segment in the wiring table
-abbrev pub segment : Segment → ℕ
-segment s = wireEntry (carries s)
+-- segments of a 7-segment pair, 1 where lit
+abbrev pub litOf : Device → ℕ → List Segment → List ℕ
+litOf x d segments = map (λ s. if (lit x d [] [] s) 1 0) segments
 
 -- whether each cathode's own pin is driven
 abbrev pub pinsAtOwn : Device → List ℕ → List ℕ
@@ -42,17 +39,31 @@ rows =
       pinsOf (taken (taken powerUp 0x0401) 0x208A) 0 (7 ∷ 2 ∷ 4 ∷ 5 ∷ 8 ∷ 9 ∷ 10 ∷ 6 ∷ []),
       map pinCode (Lit ∷ Lit ∷ Lit ∷ Lit ∷ Lit ∷ Lit ∷ Lit ∷ Unlit ∷ []),
     )
-    -- 10: 16-segment, cathode 2: O0 a1, O1 a2, O2 cathode, O3 not driven, O4 b, O18 dp
     ∷ (
-      wiresOf (withFitted powerUp 0) 2 (0 ∷ 1 ∷ 2 ∷ 3 ∷ 4 ∷ 18 ∷ []),
-      segment (glyph 15) ∷ segment (glyph 14) ∷ wireEntry cathode ∷ wireEntry notDriven ∷ segment (glyph 13) ∷ segment point ∷ [],
-    )
-    -- 11: 7-segment, cathode 6: O5 1dp, O6 cathode, O7 not driven, O8 1e
-    ∷ (
-      wiresOf powerUp 6 (5 ∷ 6 ∷ 7 ∷ 8 ∷ []),
-      segment (first 7) ∷ wireEntry cathode ∷ wireEntry notDriven ∷ segment (first 2) ∷ [],
+      litOf (taken (taken powerUp 0x0401) 0x208A) 0 (1dp ∷ 1a ∷ 1b ∷ 1c ∷ 1e ∷ 1f ∷ 1g ∷ 1d ∷ []),
+      1 ∷ 1 ∷ 1 ∷ 1 ∷ 1 ∷ 1 ∷ 1 ∷ 0 ∷ [],
     )
     ∷ []
+
+-- what pins are to a cathode
+abbrev pub wiresOf : Device → ℕ → List ℕ → List Wire
+wiresOf x d pins = map (λ p. wireAt (displayOf x d) d p) pins
+
+-- 10 and 11, as what is evaluated and what the document says
+abbrev pub wireRows : List (List Wire × List Wire)
+wireRows =
+    -- 10: 16-segment, cathode 2: O0 a1, O1 a2, O2 cathode, O3 not driven, O4 b, O18 dp
+    (
+      wiresOf (withFitted powerUp 0) 2 (0 ∷ 1 ∷ 2 ∷ 3 ∷ 4 ∷ 18 ∷ []),
+      carries a1 ∷ carries a2 ∷ cathode ∷ notDriven ∷ carries b ∷ carries dp ∷ [],
+    )
+    -- 11: 7-segment, cathode 6: O5 1dp, O6 cathode, O7 not driven, O8 1e
+    ∷ (wiresOf powerUp 6 (5 ∷ 6 ∷ 7 ∷ 8 ∷ []), carries 1dp ∷ cathode ∷ notDriven ∷ carries 1e ∷ [])
+    ∷ []
+
+-- they agree in both
+abbrev pub WireExamples : Type 0
+WireExamples = map (λ (row : List Wire × List Wire). row .0) wireRows ≡ map (λ (row : List Wire × List Wire). row .1) wireRows
 
 -- "Segments and brightness", beside the bench examples
 abbrev pub segmentRows : List (List ℕ × List ℕ)
@@ -83,4 +94,5 @@ segmentRows =
 -- what the definitions give is what the document says
 pub record Examples : Type 0 where
   pub bench : Agree rows
+  pub wires : WireExamples
   pub segments : Agree segmentRows

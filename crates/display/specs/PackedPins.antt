@@ -1,4 +1,4 @@
--- Auxiliary: eight pins at a time, by a packed row (`wiring`: Packed) and the segments as one number, computed as the code does.
+-- Auxiliary: eight pins at a time, by a packed row (`wiring`: PackedRows) and the segments as one number, computed as the code does.
 -- Assumes nothing.
 use Prim.Native.Nat.{ℕ, _+_, _*_, _/_, _%_, _^_}
 use mathlib.Core.List.{List}

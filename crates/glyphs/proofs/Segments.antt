@@ -11,10 +11,11 @@ use borrow.Author.Tests.{ltb-true}
 use Rattle.ground.specs.Choice.{bit}
 use Rattle.ground.proofs.Below.{all-at}
 use Rattle.ground.proofs.Bits.{low-bit, high-bit}
-use Rattle.wiring.specs.Wiring.{Segment, none, glyph, point, first, second, sixteen, fourteen, pair, digitOf}
-use Rattle.wiring.specs.Table.{segmentEntry}
+use Rattle.wiring.specs.Segments.{none, sixteen, fourteen, pair, Light, nothing, glyph, point, first, second, lightOf}
+use Rattle.wiring.specs.Wiring.{digitBy}
+use Rattle.wiring.specs.Table.{lightEntry}
 use Rattle.wiring.specs.declared.Display.the-variants.{Sixteen, Fourteen, SevenPair}
-use Rattle.glyphs.specs.Glyphs.{litBy}
+use Rattle.glyphs.specs.Glyphs.{lightOn}
 use Rattle.glyphs.specs.Masks.{sevenSegments, pairSegments, glyphSegments, SegmentBySegment}
 use Rattle.glyphs.proofs.Hex.{seven-small, seven-lit}
 
@@ -29,30 +30,30 @@ above w k x y e = high-bit w k (x * 2 ^ w + y) ∙ ap (bit k) e
 none-above : (x : ℕ) → x / 2 ^ 17 ≡ 0 → bit 17 x ≡ false
 none-above x e = high-bit 17 0 x ∙ ap (bit 0) e
 
--- a segment of a 14- or 16-segment digit, and one of a 7-segment pair
-abbrev word-segment : Segment → Bool
-word-segment none = true
-word-segment (glyph n) = ltb n 16
-word-segment point = true
-word-segment (first n) = false
-word-segment (second n) = false
+-- what lights a segment of a 14- or 16-segment digit, and one of a 7-segment pair
+abbrev word-light : Light → Bool
+word-light nothing = true
+word-light (glyph n) = ltb n 16
+word-light point = true
+word-light (first n) = false
+word-light (second n) = false
 
-abbrev pair-segment : Segment → Bool
-pair-segment none = true
-pair-segment (glyph n) = false
-pair-segment point = false
-pair-segment (first n) = ltb n 8
-pair-segment (second n) = ltb n 8
+abbrev pair-light : Light → Bool
+pair-light nothing = true
+pair-light (glyph n) = false
+pair-light point = false
+pair-light (first n) = ltb n 8
+pair-light (second n) = ltb n 8
 
 module _ (hex : Bool) (font : List ℕ) (byte : ℕ → ℕ) (d : ℕ) (hd : byte d < 256) (ha : byte (d + 8) < 256) (words : (i : ℕ) → getD font i 0 < 65536) where
-  abbrev lit : Segment → Bool
-  lit s = litBy hex font (byte (digitOf d s)) s
+  abbrev lit : Light → Bool
+  lit l = lightOn hex font (byte (digitBy d l)) l
 
   abbrev word : ℕ
   word = getD font (byte d % 128) 0
 
-  of-glyph : (s : Segment) → word-segment s ≡ true → bit (segmentEntry s) (glyphSegments font (byte d)) ≡ lit s
-  of-glyph none e = none-above (byte d / 128 * 65536 + word) (omega (arith, words (byte d % 128), hd))
+  of-glyph : (l : Light) → word-light l ≡ true → bit (lightEntry l) (glyphSegments font (byte d)) ≡ lit l
+  of-glyph nothing e = none-above (byte d / 128 * 65536 + word) (omega (arith, words (byte d % 128), hd))
   of-glyph (glyph n) e = below 16 n (byte d / 128) word (ltb-true n 16 e) (omega (arith, words (byte d % 128)))
   of-glyph point e = above 16 0 (byte d / 128) word (omega (arith, words (byte d % 128))) ∙ sym (high-bit 7 0 (byte d))
   of-glyph (first n) e = absurd (true≢false (sym e))
@@ -64,8 +65,8 @@ module _ (hex : Bool) (font : List ℕ) (byte : ℕ → ℕ) (d : ℕ) (hd : byt
   small : seven d < 256
   small = seven-small hex (byte d) hd
 
-  of-pair : (s : Segment) → pair-segment s ≡ true → bit (segmentEntry s) (pairSegments hex (byte d) (byte (d + 8))) ≡ lit s
-  of-pair none e = none-above (seven (d + 8) * 256 + seven d) (omega (arith, small, seven-small hex (byte (d + 8)) ha))
+  of-pair : (l : Light) → pair-light l ≡ true → bit (lightEntry l) (pairSegments hex (byte d) (byte (d + 8))) ≡ lit l
+  of-pair nothing e = none-above (seven (d + 8) * 256 + seven d) (omega (arith, small, seven-small hex (byte (d + 8)) ha))
   of-pair (glyph n) e = absurd (true≢false (sym e))
   of-pair point e = absurd (true≢false (sym e))
   of-pair (first n) e =
@@ -75,8 +76,8 @@ module _ (hex : Bool) (font : List ℕ) (byte : ℕ → ℕ) (d : ℕ) (hd : byt
 
 pub segment-by-segment : SegmentBySegment
 segment-by-segment Sixteen hex font byte d r hd ha words h =
-    of-glyph hex font byte d hd ha words (getD sixteen r none) (all-at (λ q. word-segment (getD sixteen q none)) 17 refl r h)
+    of-glyph hex font byte d hd ha words (lightOf (getD sixteen r none)) (all-at (λ q. word-light (lightOf (getD sixteen q none))) 17 refl r h)
 segment-by-segment Fourteen hex font byte d r hd ha words h =
-    of-glyph hex font byte d hd ha words (getD fourteen r none) (all-at (λ q. word-segment (getD fourteen q none)) 17 refl r h)
+    of-glyph hex font byte d hd ha words (lightOf (getD fourteen r none)) (all-at (λ q. word-light (lightOf (getD fourteen q none))) 17 refl r h)
 segment-by-segment SevenPair hex font byte d r hd ha words h =
-    of-pair hex font byte d hd ha words (getD pair r none) (all-at (λ q. pair-segment (getD pair q none)) 17 refl r h)
+    of-pair hex font byte d hd ha words (lightOf (getD pair r none)) (all-at (λ q. pair-light (lightOf (getD pair q none))) 17 refl r h)

@@ -6,7 +6,7 @@ use mathlib.Core.List.{List, [], _∷_}
 use lib.Dec.{eqb}
 use lib.ListN.{getD}
 use Rattle.ground.specs.Choice.{if, bit}
-use Rattle.wiring.specs.Wiring.{Segment, none, glyph, point, first, second}
+use Rattle.wiring.specs.Segments.{Segment, Light, nothing, glyph, point, first, second, lightOf}
 
 -- the hex font of Table 11: a b c d e f g of the characters 0 to F, 1 being on
 abbrev pub table11 : List (List ℕ)
@@ -38,10 +38,14 @@ hexOn c n = eqb (getD (getD table11 c []) (6 - n) 0) 1
 abbrev pub sevenLit : Bool → ℕ → ℕ → Bool
 sevenLit hex v n = if hex (if (eqb n 7) (bit 7 v) (hexOn (v % 16) n)) (bit n v)
 
--- a segment lit by the byte of its own digit, under the table of its display: D6 to D0 pick the glyph word, D7 is dp
+-- what a digit's byte v lights, under the table of its display: D6 to D0 pick the glyph word, D7 is dp
+abbrev pub lightOn : Bool → List ℕ → ℕ → Light → Bool
+lightOn hex font v nothing = false
+lightOn hex font v (glyph n) = bit n (getD font (v % 128) 0)
+lightOn hex font v point = bit 7 v
+lightOn hex font v (first n) = sevenLit hex v n
+lightOn hex font v (second n) = sevenLit hex v n
+
+-- a segment lit by the byte of its own digit
 abbrev pub litBy : Bool → List ℕ → ℕ → Segment → Bool
-litBy hex font v none = false
-litBy hex font v (glyph n) = bit n (getD font (v % 128) 0)
-litBy hex font v point = bit 7 v
-litBy hex font v (first n) = sevenLit hex v n
-litBy hex font v (second n) = sevenLit hex v n
+litBy hex font v s = lightOn hex font v (lightOf s)

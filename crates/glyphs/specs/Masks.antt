@@ -6,7 +6,8 @@ use mathlib.Core.List.{List, [], _∷_}
 use mathlib.Core.Path.{_≡_}
 use lib.ListN.{getD}
 use Rattle.ground.specs.Choice.{if, bit}
-use Rattle.wiring.specs.Wiring.{none, listOf, digitOf}
+use Rattle.wiring.specs.Segments.{none, listOf}
+use Rattle.wiring.specs.Wiring.{digitOf}
 use Rattle.wiring.specs.Table.{segmentEntry}
 use Rattle.wiring.specs.declared.Display.{Display}
 use Rattle.wiring.specs.declared.Display.the-variants.{Sixteen, Fourteen, SevenPair}

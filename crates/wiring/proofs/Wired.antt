@@ -2,7 +2,7 @@
 -- Assumes nothing.
 use Prim.Native.Nat.{ℕ, _+_, _-_, _*_, _<_, _≤_}
 use mathlib.Core.Bool.{Bool, true, _&&_}
-use mathlib.Core.List.{[], _∷_, _++_}
+use mathlib.Core.List.{[], _∷_, _++_, map}
 use mathlib.Core.Path.{_≡_, refl}
 use lib.Dec.{eqb}
 use lib.ListN.{getD, set}
@@ -11,7 +11,8 @@ use Rattle.ground.specs.Lists.{tabulate}
 use Rattle.ground.proofs.Below.{all, all-at}
 use Rattle.ground.proofs.Lists.{tabulate-ext}
 use Rattle.ground.proofs.Truth.{and-left, and-right}
-use Rattle.wiring.specs.Wiring.{none, glyph, point, sixteen, fourteen, cathode, notDriven, listOf, partner, ruleAt, wireAt}
+use Rattle.wiring.specs.Segments.{none, sixteen, fourteen, listOf, nothing, glyph, point, lightOf}
+use Rattle.wiring.specs.Wiring.{cathode, notDriven, partner, ruleAt, wireAt}
 use Rattle.wiring.specs.Table.{segmentEntry, wireEntry, displayIndex, table, entryAt, others, WiringTable}
 use Rattle.wiring.specs.declared.Display.{Display}
 use Rattle.wiring.specs.declared.Display.the-variants.{Sixteen, Fourteen, SevenPair}
@@ -59,11 +60,11 @@ module _ (k : Display) (d : ℕ) (h : d < 8) where
   entry-at p l = eqb-true _ _ (all-at (ruled k d) 19 (and-right (all (listed k d) 17) _ (and-right (next k d) _ rest)) p l)
 
 -- the lists of 16 and of 14 segments by the bits of a glyph word
-sixteen-bits : sixteen ≡ tabulate 16 (λ r. glyph (15 - r)) ++ point ∷ []
+sixteen-bits : map lightOf sixteen ≡ tabulate 16 (λ r. glyph (15 - r)) ++ point ∷ []
 unfolding tabulate
 sixteen-bits = refl
 
-fourteen-bits : fourteen ≡ set (set sixteen 1 none) 5 none
+fourteen-bits : map lightOf fourteen ≡ set (set (map lightOf sixteen) 1 nothing) 5 nothing
 fourteen-bits = refl
 
 pub wired : WiringTable

@@ -1,3 +1,4 @@
+pub mod Segments
 pub mod Wiring
 pub mod Table
 pub mod PackedRows

@@ -6,7 +6,8 @@ use lib.Bits.{bitAnd, bitOr}
 use lib.Dec.{eqb, ltb}
 use lib.ListN.{getD}
 use Rattle.ground.specs.Choice.{if}
-use Rattle.wiring.specs.Wiring.{isSegment, Wire, none, cathode, notDriven, carries, listOf, wireAt}
+use Rattle.wiring.specs.Segments.{none, listOf, isSegment}
+use Rattle.wiring.specs.Wiring.{Wire, cathode, notDriven, carries, wireAt}
 use Rattle.wiring.specs.Table.{wireEntry}
 use Rattle.wiring.specs.declared.Display.{Display}
 use Rattle.wiring.specs.declared.PackedPins.{PackedPins}

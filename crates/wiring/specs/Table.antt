@@ -2,23 +2,28 @@
 -- Assumes nothing.
 use Prim.Native.Nat.{ℕ, _+_, _-_, _*_, _<_}
 use mathlib.Core.Bool.{_||_}
-use mathlib.Core.List.{List, [], _∷_, _++_}
+use mathlib.Core.List.{List, [], _∷_, _++_, map}
 use mathlib.Core.Path.{_≡_}
 use lib.Dec.{eqb}
 use lib.ListN.{getD, set}
 use Rattle.ground.specs.Choice.{if}
 use Rattle.ground.specs.Lists.{tabulate}
-use Rattle.wiring.specs.Wiring.{Segment, none, glyph, point, first, second, sixteen, fourteen, Wire, cathode, notDriven, carries, listOf, partner, ruleAt}
+use Rattle.wiring.specs.Segments.{Segment, none, sixteen, fourteen, listOf, Light, nothing, glyph, point, first, second, lightOf}
+use Rattle.wiring.specs.Wiring.{Wire, cathode, notDriven, carries, partner, ruleAt}
 use Rattle.wiring.specs.declared.Display.{Display}
 use Rattle.wiring.specs.declared.Display.the-variants.{Sixteen, Fourteen, SevenPair}
 
--- a segment's entry: the number of the bit that lights it (`glyphs`: Numbers), or 17 for none
+-- the number of the bit that lights a segment (`glyphs`: Masks), or 17 for none
+abbrev pub lightEntry : Light → ℕ
+lightEntry nothing = 17
+lightEntry (glyph n) = n
+lightEntry point = 16
+lightEntry (first n) = n
+lightEntry (second n) = n + 8
+
+-- a segment's entry
 abbrev pub segmentEntry : Segment → ℕ
-segmentEntry none = 17
-segmentEntry (glyph n) = n
-segmentEntry point = 16
-segmentEntry (first n) = n
-segmentEntry (second n) = n + 8
+segmentEntry s = lightEntry (lightOf s)
 
 -- a pin's entry: that of the segment that it carries, or 18 for the cathode and 19 for a pin that isn't driven
 abbrev pub wireEntry : Wire → ℕ
@@ -95,5 +100,5 @@ pub record WiringTable : Type 0 where
   pub partners : (k : Display) (d : ℕ) → d < 8 → entryAt k d (partner d) ≡ wireEntry notDriven
   pub segments : (k : Display) (d r : ℕ) → d < 8 → r < 17 → entryAt k d (getD (others d) r 0) ≡ segmentEntry (getD (listOf k) r none)
   pub entries : (k : Display) (d p : ℕ) → d < 8 → p < 19 → entryAt k d p ≡ wireEntry (ruleAt k d p)
-  pub sixteen-bits : sixteen ≡ tabulate 16 (λ r. glyph (15 - r)) ++ point ∷ []
-  pub fourteen-bits : fourteen ≡ set (set sixteen 1 none) 5 none
+  pub sixteen-bits : map lightOf sixteen ≡ tabulate 16 (λ r. glyph (15 - r)) ++ point ∷ []
+  pub fourteen-bits : map lightOf fourteen ≡ set (set (map lightOf sixteen) 1 nothing) 5 nothing

@@ -23,7 +23,7 @@ unfolding tabulate allSound number
 bench-numbers = refl
 
 bench-answers : Agree answerRows
-unfolding tabulate allSound number after reply afterAll
+unfolding tabulate taken allSound number after reply afterAll
 bench-answers = refl
 
 pub examples : Examples

@@ -1,11 +1,12 @@
 -- Document 01, "Bench examples", in one table, and "Numbers a call may give", row by row: what the definitions give beside what the document says.
 -- Assumes nothing.
-use Prim.Native.Nat.{ℕ}
+use Prim.Native.Nat.{ℕ, _+_}
 use mathlib.Core.List.{List, [], _∷_, _++_, map}
 use lib.ListN.{replicate}
 use Rattle.ground.specs.Lists.{tabulate, Agree}
 use Rattle.device.specs.PowerUp.{powerUp}
 use Rattle.device.specs.Record.{withPins, withBlink}
+use Rattle.device.specs.Words.{taken}
 use Rattle.device.specs.Examples.{rows as driverRows}
 use Rattle.device.specs.declared.Device.{Device}
 use Rattle.display.specs.Examples.{WireExamples, rows as displayRows}
@@ -83,6 +84,10 @@ rows = chainRows ++ driverRows ++ displayRows
 abbrev pub lent : List ℕ
 lent = tabulate 16 (λ i. i)
 
+-- a plane whose digits hold 16 more
+abbrev pub other : List ℕ
+other = tabulate 16 (λ i. 16 + i)
+
 -- a glyph table
 abbrev pub font : List ℕ
 font = replicate 128 0
@@ -136,9 +141,10 @@ numberRows =
 -- what calls give back, served or refused
 abbrev pub answerRows : List (List ℕ × List ℕ)
 answerRows =
-    -- "Blink": digits 2 to 4, both included, and one digit alone
-    (reply (ask 1 (plane lent lent 2 4)) (fresh 1), 2 ∷ 3 ∷ 4 ∷ [])
-    ∷ (reply (ask 1 (plane lent lent 15 15)) (fresh 1), 15 ∷ [])
+    -- "Blink": digits 2 to 4, both included, of the plane now shown, and one digit alone
+    (reply (ask 1 (plane lent other 2 4)) (fresh 1), 2 ∷ 3 ∷ 4 ∷ [])
+    ∷ (reply (ask 1 (plane lent other 2 4)) (withBlink (taken powerUp 0x0409) 2000000 ∷ []), 18 ∷ 19 ∷ 20 ∷ [])
+    ∷ (reply (ask 1 (plane lent other 15 15)) (fresh 1), 15 ∷ [])
     -- refused: an answer that would hold a number holds 0, a segment answer has no pin driven, a returned part is empty
     ∷ (reply (ask 1 (brightness 16)) (fresh 1) ++ reply (ask 2 shown) (fresh 1) ++ reply (ask 2 interrupt) (fresh 1), 0 ∷ 0 ∷ 0 ∷ [])
     ∷ (reply (ask 1 (segments 8 font font)) (fresh 1), replicate 19 0)

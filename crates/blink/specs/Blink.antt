@@ -1,4 +1,4 @@
--- Document 01, "Blink".
+-- Believed: document 01, "Blink".
 -- Assumes nothing.
 use Prim.Native.Nat.{ℕ, _+_, _%_}
 use mathlib.Core.Bool.{Bool}

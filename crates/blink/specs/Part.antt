@@ -1,4 +1,4 @@
--- Document 01, "Blink" and number 6: the part of the plane now shown, of two lent planes.
+-- Believed: document 01, "Blink" and number 6: the part of the plane now shown, of two lent planes.
 -- Assumes nothing.
 use Prim.Native.Nat.{ℕ, _+_, _-_}
 use mathlib.Core.List.{List, []}

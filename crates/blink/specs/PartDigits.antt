@@ -1,4 +1,4 @@
--- Document 01, "Blink": a digit range, first to last, both included, of the plane now shown.
+-- Believed: document 01, "Blink": a digit range, first to last, both included, of the plane now shown.
 -- Assumes nothing.
 use Prim.Native.Nat.{ℕ, _+_, _≤_}
 use mathlib.Core.List.{List}

@@ -1,4 +1,4 @@
--- Document 01, "Blink": 4 MHz with periods of 1 s and 0.5 s, the P0 phase first; T=1 starts a period; the plane shown.
+-- Believed: document 01, "Blink": 4 MHz with periods of 1 s and 0.5 s, the P0 phase first; T=1 starts a period; the plane shown.
 -- Assumes nothing.
 use Prim.Native.Nat.{ℕ, _<_}
 use mathlib.Core.Bool.{Bool, true, false}

@@ -1,4 +1,4 @@
--- Document 01, "Segments and brightness" and number 6: the brightness of a digit, in sixteenths.
+-- Believed: document 01, "Segments and brightness" and number 6: the brightness of a digit, in sixteenths.
 -- Assumes nothing.
 use Prim.Native.Nat.{ℕ, _+_, _/_, _%_}
 use mathlib.Core.List.{List}

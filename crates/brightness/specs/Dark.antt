@@ -1,4 +1,4 @@
--- Document 01, "Segments and brightness": display test, and the cathodes that are dark.
+-- Believed: document 01, "Segments and brightness": display test, and the cathodes that are dark.
 -- Assumes nothing.
 use Prim.Native.Nat.{ℕ}
 use mathlib.Core.Bool.{Bool, not, _&&_, _||_}

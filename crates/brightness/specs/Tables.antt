@@ -1,4 +1,4 @@
--- Document 01, "Segments and brightness": dark cathodes and brightness beside Tables 25 to 29 and the display test section of 000.
+-- Believed: document 01, "Segments and brightness": dark cathodes and brightness beside Tables 25 to 29 and the display test section of 000.
 -- Assumes nothing.
 use Prim.Native.Nat.{ℕ, _<_, _≤_}
 use mathlib.Core.Bool.{true, false}

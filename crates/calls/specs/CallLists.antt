@@ -1,4 +1,4 @@
--- Document 01, "Demand 3's list and lone driver": a list of calls on one chain's records.
+-- Believed: document 01, "Demand 3's list and lone driver": a list of calls on one chain's records.
 -- Assumes nothing.
 use Prim.Native.Nat.{ℕ}
 use mathlib.Core.List.{List, [], _∷_}

@@ -1,4 +1,4 @@
--- Document 01, "Numbers a call may give": which rows of the table a call is tested by.
+-- Believed: document 01, "Numbers a call may give": which rows of the table a call is tested by.
 -- Assumes nothing.
 use Prim.Native.Nat.{ℕ}
 use mathlib.Core.Bool.{Bool, true, _&&_}

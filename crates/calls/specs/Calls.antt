@@ -1,4 +1,4 @@
--- Document 01: the calls on a chain, with their arguments. Drivers are counted from 1, driver 1 nearest the controller.
+-- Believed: document 01: the calls on a chain, with their arguments. Drivers are counted from 1, driver 1 nearest the controller.
 -- Assumes nothing.
 use Prim.Native.Nat.{ℕ}
 use mathlib.Core.List.{List}

@@ -1,4 +1,4 @@
--- Document 01, "Bench examples", in one table, and "Numbers a call may give", row by row: what the definitions give beside what the document says.
+-- Believed: document 01, "Bench examples", in one table, and "Numbers a call may give", row by row: what the definitions give beside what the document says.
 -- Assumes nothing.
 use Prim.Native.Nat.{ℕ, _+_}
 use mathlib.Core.List.{List, [], _∷_, _++_, map}
@@ -6,7 +6,7 @@ use lib.ListN.{replicate}
 use Rattle.ground.specs.Lists.{tabulate, Agree}
 use Rattle.device.specs.PowerUp.{powerUp}
 use Rattle.device.specs.Record.{withPins, withBlink}
-use Rattle.device.specs.Words.{taken}
+use Rattle.device.specs.Taken.{taken}
 use Rattle.device.specs.Examples.{rows as driverRows}
 use Rattle.device.specs.declared.Device.{Device}
 use Rattle.display.specs.Examples.{WireExamples, rows as displayRows}

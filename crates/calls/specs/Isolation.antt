@@ -1,4 +1,4 @@
--- Document 01, "Demand 3's list and lone driver".
+-- Believed: document 01, "Demand 3's list and lone driver".
 -- Assumes nothing.
 use Prim.Native.Nat.{ℕ, _-_, _*_, _≤_}
 use mathlib.Core.Bool.{Bool, true}

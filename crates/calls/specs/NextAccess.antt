@@ -1,4 +1,4 @@
--- Demand 2: a read's answer comes out in the next accepted access that has at least 16 clocks for each driver, never in its own.
+-- Believed: demand 2: a read's answer comes out in the next accepted access that has at least 16 clocks for each driver, never in its own.
 -- Assumes nothing.
 use Prim.Native.Nat.{ℕ, _-_, _*_, _/_, _%_, _≤_}
 use mathlib.Core.Bool.{true, false}

@@ -1,4 +1,4 @@
--- Document 01, "Numbers a call may give": one call on a chain, its number, the records after it, and what it gives back.
+-- Believed: document 01, "Numbers a call may give": one call on a chain, its number, the records after it, and what it gives back.
 -- Assumes nothing.
 use Prim.Native.Nat.{ℕ}
 use mathlib.Core.List.{List}

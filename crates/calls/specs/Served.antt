@@ -1,4 +1,4 @@
--- Document 01, "Bits on the wire", "Keys", "Blink", "Segments and brightness": what a call leaves and gives back, served or refused.
+-- Believed: document 01, "Bits on the wire", "Keys", "Blink", "Segments and brightness": what a call leaves and gives back, served or refused.
 -- Assumes nothing.
 use Prim.Native.Nat.{ℕ, _-_}
 use mathlib.Core.List.{List, [], _∷_, _++_, map}

@@ -1,4 +1,4 @@
--- Document 01, "What the double covers": accepted calls leave sound records. Refused ones change none.
+-- Believed: document 01, "What the double covers": accepted calls leave sound records. Refused ones change none.
 -- Assumes nothing.
 use mathlib.Core.Bool.{true}
 use mathlib.Core.List.{List}

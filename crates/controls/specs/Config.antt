@@ -1,4 +1,4 @@
--- Document 01, "Registers": 0x04 configuration, bits P I R T E B X S.
+-- Believed: document 01, "Registers": 0x04 configuration, bits P I R T E B X S.
 -- Assumes nothing.
 use Prim.Native.Nat.{ℕ, _+_, _*_, _/_, _%_}
 use mathlib.Core.Bool.{Bool, _&&_}

@@ -1,4 +1,4 @@
--- Document 01, "Registers": the control registers, written and read.
+-- Believed: document 01, "Registers": the control registers, written and read.
 -- Assumes nothing.
 use Prim.Native.Nat.{ℕ, _%_}
 use mathlib.Core.Bool.{Bool, _&&_}
@@ -24,15 +24,15 @@ controlWritten x DisplayTest v =
 controlWritten x DigitType v =
     record { decode = x .decode; global = x .global; limit = x .limit; gpio = x .gpio; ports = x .ports; test = x .test; types = v }
 
--- a register's data, levels being what GPIO data reads; digit type can't be read
+-- a register's data, gpioData being what GPIO data reads; digit type can't be read
 abbrev pub controlData : Controls → ControlRegister → ℕ → ℕ
-controlData x DecodeMode levels = x .decode
-controlData x GlobalIntensity levels = x .global
-controlData x ScanLimit levels = x .limit
-controlData x GpioData levels = levels
-controlData x PortConfiguration levels = x .ports
-controlData x DisplayTest levels = x .test
-controlData x DigitType levels = 0
+controlData x DecodeMode gpioData = x .decode
+controlData x GlobalIntensity gpioData = x .global
+controlData x ScanLimit gpioData = x .limit
+controlData x GpioData gpioData = gpioData
+controlData x PortConfiguration gpioData = x .ports
+controlData x DisplayTest gpioData = x .test
+controlData x DigitType gpioData = 0
 
 -- each register fits its width; those of 8 bits do by their type
 abbrev pub soundControls : Controls → Bool

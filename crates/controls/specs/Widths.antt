@@ -1,4 +1,4 @@
--- Document 01, "Registers" and "What the double covers": the width of each control register, and the bits of the configuration register.
+-- Believed: document 01, "Registers" and "What the double covers": the width of each control register, and the bits of the configuration register.
 -- Assumes nothing.
 use Prim.Native.Nat.{ℕ, _+_, _*_, _%_, _^_, _<_}
 use mathlib.Core.Bool.{true}

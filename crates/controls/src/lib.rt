@@ -61,15 +61,15 @@ impl Controls {
         }
     }
 
-    // A register's data, levels being what GPIO data reads; digit type can't be read.
-    pub fn read_data(self, control: ControlRegister, levels: u8) -> u8
-        ensures { λ r. ⌜ r ≡ controlData self control levels ⌝ }
+    // A register's data, gpio_data being what GPIO data reads; digit type can't be read.
+    pub fn read_data(self, control: ControlRegister, gpio_data: u8) -> u8
+        ensures { λ r. ⌜ r ≡ controlData self control gpio_data ⌝ }
     {
         match control {
             ControlRegister::DecodeMode => self.decode,
             ControlRegister::GlobalIntensity => self.global,
             ControlRegister::ScanLimit => self.limit,
-            ControlRegister::GpioData => levels,
+            ControlRegister::GpioData => gpio_data,
             ControlRegister::PortConfiguration => self.ports,
             ControlRegister::DisplayTest => self.test,
             ControlRegister::DigitType => 0,

@@ -1,4 +1,4 @@
--- Document 01, "Bench examples", those of one driver, and more by its headings: what the definitions give beside what the document says.
+-- Believed: document 01, "Bench examples", those of one driver, and more by its headings: what the definitions give beside what the document says.
 -- Assumes nothing.
 use Prim.Native.Nat.{ℕ, _/_, _%_}
 use mathlib.Core.List.{List, [], _∷_, map}

@@ -1,4 +1,4 @@
--- Document 01, "What the double covers": the power-up record. Its values are Table 15's; a register that the table omits is 0.
+-- Believed: document 01, "What the double covers": the power-up record. Its values are Table 15's; a register that the table omits is 0.
 -- Assumes nothing.
 use mathlib.Core.List.{_++_}
 use Rattle.keys.specs.Keys.{released}

@@ -1,4 +1,4 @@
--- Document 01, "What the double covers": the record of a driver, with one part of it replaced.
+-- Believed: document 01, "What the double covers": the record of a driver, with one part of it replaced.
 -- Assumes nothing.
 use Prim.Native.Nat.{ℕ}
 use Rattle.keys.specs.declared.Keys.{Keys}

@@ -1,4 +1,4 @@
--- Document 01, "Bits on the wire": the shift word that a driver is left with by the word it takes.
+-- Believed: document 01, "Bits on the wire": the shift word that a driver is left with by the word it takes.
 -- Assumes nothing.
 use Prim.Native.Nat.{ℕ, _/_, _%_}
 use mathlib.Core.Bool.{true, false}

@@ -1,4 +1,4 @@
--- Document 01, "What the double covers": the power-up record is sound, and accepted calls leave sound records.
+-- Believed: document 01, "What the double covers": the power-up record is sound, and accepted calls leave sound records.
 -- Assumes nothing.
 use Prim.Native.Nat.{ℕ, _<_}
 use mathlib.Core.Bool.{true}

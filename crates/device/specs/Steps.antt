@@ -1,4 +1,4 @@
--- Document 01, "Keys" and "Blink": a scan and master clocks given to a driver, and the plane that it shows.
+-- Believed: document 01, "Keys" and "Blink": a scan and master clocks given to a driver, and the plane that it shows.
 -- Assumes nothing.
 use Prim.Native.Nat.{ℕ}
 use Rattle.ground.specs.Choice.{odd}

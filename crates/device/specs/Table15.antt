@@ -1,4 +1,4 @@
--- Table 15, initial power-up register status, row by row in its order; document 01, "What the double covers": the power-up record.
+-- Believed: Table 15, initial power-up register status, row by row in its order; document 01, "What the double covers": the power-up record.
 -- Assumes nothing.
 use Prim.Native.Nat.{ℕ, _+_, _*_, _%_}
 use mathlib.Core.List.{List, [], _∷_, map}

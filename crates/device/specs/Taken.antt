@@ -1,4 +1,4 @@
--- Document 01, "Bits on the wire": what a driver does with the word it takes.
+-- Believed: document 01, "Bits on the wire": what a driver does with the word it takes.
 -- Assumes nothing.
 use Prim.Native.Nat.{ℕ, _+_, _*_, _/_}
 use Rattle.words.specs.Addresses.{wordOf}

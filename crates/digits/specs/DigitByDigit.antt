@@ -1,4 +1,4 @@
--- Document 01, "Registers", digit by digit: what writes to the planes leave, and what R=1 does.
+-- Believed: document 01, "Registers", digit by digit: what writes to the planes leave, and what R=1 does.
 -- Assumes nothing.
 use Prim.Native.Nat.{ℕ}
 use mathlib.Core.Path.{_≡_}

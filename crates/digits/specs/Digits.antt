@@ -1,4 +1,4 @@
--- Document 01, "Registers": the digit planes, 0x20+d plane P0, 0x40+d plane P1, 0x60+d both. Digit d = 0..7 is at place d of a
+-- Believed: document 01, "Registers": the digit planes, 0x20+d plane P0, 0x40+d plane P1, 0x60+d both. Digit d = 0..7 is at place d of a
 -- plane, digit da at place d + 8.
 -- Assumes nothing.
 use Prim.Native.Nat.{ℕ}

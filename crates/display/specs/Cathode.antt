@@ -1,4 +1,4 @@
--- Document 01, "Segments and brightness": the display of a cathode, and the segments of it that are on.
+-- Believed: document 01, "Segments and brightness": the display of a cathode, and the segments of it that are on.
 -- Assumes nothing.
 use Prim.Native.Nat.{ℕ}
 use mathlib.Core.Bool.{Bool, _||_}

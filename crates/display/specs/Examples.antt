@@ -1,4 +1,5 @@
--- Document 01, "Bench examples", those of the display, and more of "Segments and brightness": what the definitions give beside what the document says.
+-- Believed: document 01, "Bench examples", those of the display, and more of "Segments and brightness":
+-- what the definitions give beside what the document says.
 -- Assumes nothing.
 use Prim.Native.Nat.{ℕ, _+_}
 use mathlib.Core.List.{List, [], _∷_, map}
@@ -63,7 +64,7 @@ wireRows =
 
 -- they agree in both
 abbrev pub WireExamples : Type 0
-WireExamples = map (λ (row : List Wire × List Wire). row .0) wireRows ≡ map (λ (row : List Wire × List Wire). row .1) wireRows
+WireExamples = Agree wireRows
 
 -- "Segments and brightness", beside the bench examples
 abbrev pub segmentRows : List (List ℕ × List ℕ)

@@ -1,4 +1,4 @@
--- Document 01, "Segments and brightness" and number 6: the pins O0 to O18 of a cathode, pin by pin.
+-- Believed: document 01, "Segments and brightness" and number 6: the pins O0 to O18 of a cathode, pin by pin.
 -- Assumes nothing.
 use Prim.Native.Nat.{ℕ}
 use mathlib.Core.Bool.{Bool}

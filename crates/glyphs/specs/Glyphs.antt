@@ -1,4 +1,4 @@
--- Document 01, "Segments and brightness": the segments that a digit's byte lights.
+-- Believed: document 01, "Segments and brightness": the segments that a digit's byte lights.
 -- Assumes nothing.
 use Prim.Native.Nat.{ℕ, _-_, _%_}
 use mathlib.Core.Bool.{Bool, false}

@@ -1,4 +1,4 @@
--- The segments that bytes light, as one number: segment s is bit `segmentEntry s`. Bits that no segment of the display has may be set too.
+-- Auxiliary: the segments that bytes light, as one number: segment s is bit `segmentEntry s`. Bits that no segment of the display has may be set too.
 -- Assumes nothing.
 use Prim.Native.Nat.{ℕ, _+_, _*_, _/_, _%_, _<_}
 use mathlib.Core.Bool.{Bool}

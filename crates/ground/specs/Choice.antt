@@ -1,4 +1,4 @@
--- A choice by a test, and the bits of a number.
+-- Believed: a choice by a test, and the bits of a number.
 -- Assumes nothing.
 use Prim.Native.Nat.{ℕ, zero, suc, _/_, _%_, _^_}
 use mathlib.Core.Bool.{Bool, true, false, _||_}

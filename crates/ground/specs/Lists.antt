@@ -1,4 +1,4 @@
--- A list by its elements, and tables of examples.
+-- Believed: a list by its elements, and tables of examples.
 -- Assumes nothing.
 use Prim.Native.Nat.{ℕ, zero, suc}
 use mathlib.Core.List.{List, [], _∷_, _++_, map}
@@ -10,5 +10,5 @@ tabulate zero f = []
 tabulate (suc n) f = tabulate n f ++ f n ∷ []
 
 -- a table of examples, in each row what is evaluated and what the document says: the two agree in every row
-abbrev pub Agree : List (List ℕ × List ℕ) → Type 0
-Agree rows = map (λ (row : List ℕ × List ℕ). row .0) rows ≡ map (λ (row : List ℕ × List ℕ). row .1) rows
+abbrev pub Agree : {A : Type 0} → List (A × A) → Type 0
+Agree {A} rows = map (λ (row : A × A). row .0) rows ≡ map (λ (row : A × A). row .1) rows

@@ -1,4 +1,4 @@
--- Document 01, "Keys", key by key: what a scan makes of key k of a group, and what scans and reads make of the four groups.
+-- Believed: document 01, "Keys", key by key: what a scan makes of key k of a group, and what scans and reads make of the four groups.
 -- Assumes nothing.
 use Prim.Native.Nat.{ℕ, _/_, _<_}
 use mathlib.Core.Bool.{true, false, not, _&&_, _||_}

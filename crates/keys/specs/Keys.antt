@@ -1,4 +1,4 @@
--- Document 01, "Keys".
+-- Believed: document 01, "Keys".
 -- Assumes nothing.
 use Prim.Native.Nat.{ℕ, _-_, _/_}
 use mathlib.Core.Bool.{Bool, not, _||_}

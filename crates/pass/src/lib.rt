@@ -146,7 +146,7 @@ pub fn by_arguments(n: usize, driver: usize, own: u8) -> u8
 pub fn access_by_arguments(n: usize, clocks: usize, sent: usize, room: usize) -> u8
     ensures { λ r. ⌜ r ≡ accessByArguments n clocks sent room ⌝ }
 {
-    first_of(chain_refusal(n), wire::size_refusal(clocks, sent, room))
+    first_of(chain_refusal(n), refusals::size_refusal(clocks, sent, room))
 }
 
 // How many records are passed over: none where the number is known.

@@ -13,7 +13,7 @@ use Rattle.ground.proofs.Below.{all, all-at}
 use Rattle.ground.proofs.Truth.{same}
 use Rattle.ground.proofs.Bits.{and-bit, or-bit, not-bit, low-bit}
 use Rattle.keys.specs.Keys.{groupsOf}
-use Rattle.ports.specs.Ports.{freePorts, levels, irqLevel}
+use Rattle.ports.specs.Ports.{freePorts, gpioBits, irqLevel}
 use Rattle.ports.specs.PortByPort.{portLevel, PortByPort}
 
 -- port p is P4 as the interrupt
@@ -57,7 +57,7 @@ pick-port false false true q = refl
 pick-port false false false q = refl
 
 -- a free port: an input gives its pin, an output its stored bit
-level-bit : (ports gpio pins p : ℕ) → p < 5 → bit p (levels ports gpio pins) ≡ if (bit p ports) (bit p pins) (bit p gpio)
+level-bit : (ports gpio pins p : ℕ) → p < 5 → bit p (gpioBits ports gpio pins) ≡ if (bit p ports) (bit p pins) (bit p gpio)
 level-bit ports gpio pins p h =
     simp (or-bit, and-bit, not-bit 5 p (ports % 32) h (mod-lt ports (zero-lt-suc 31)), low-bit 5 p ports h, low-bit 5 p pins h)
     (pick-level (bit p ports) (bit p pins) (bit p gpio))
@@ -70,11 +70,11 @@ few-groups ports = go (ltb (ports / 32) 4) refl where
 
 -- port p with g groups
 level-at : (g ports gpio pins interrupt p : ℕ) → g < 5 → p < 5
-    → bit p (bitOr (bitAnd (freePorts g) (levels ports gpio pins)) (irqLevel g interrupt)) ≡ portLevel g ports gpio pins interrupt p
+    → bit p (bitOr (bitAnd (freePorts g) (gpioBits ports gpio pins)) (irqLevel g interrupt)) ≡ portLevel g ports gpio pins interrupt p
 level-at g ports gpio pins interrupt p hg hp =
-    or-bit p (bitAnd (freePorts g) (levels ports gpio pins)) (irqLevel g interrupt)
+    or-bit p (bitAnd (freePorts g) (gpioBits ports gpio pins)) (irqLevel g interrupt)
     ∙ ap₂ _||_
-    (and-bit p (freePorts g) (levels ports gpio pins)
+    (and-bit p (freePorts g) (gpioBits ports gpio pins)
     ∙ ap₂ _&&_ (free-bit g p hg hp) (level-bit ports gpio pins p hp))
     (irq-bit g interrupt p hg hp)
     ∙ pick-port (isIrq g p) (ltb p g) (if (bit p ports) (bit p pins) (bit p gpio)) (odd interrupt)
@@ -89,10 +89,10 @@ irq-small g interrupt = go (eqb g 0) where
   go false = omega arith
 
 unused-at : (g ports gpio pins interrupt : ℕ) → g < 5
-    → bitOr (bitAnd (freePorts g) (levels ports gpio pins)) (irqLevel g interrupt) < 32
+    → bitOr (bitAnd (freePorts g) (gpioBits ports gpio pins)) (irqLevel g interrupt) < 32
 unused-at g ports gpio pins interrupt h =
-    or-lt 5 (bitAnd (freePorts g) (levels ports gpio pins)) (irqLevel g interrupt)
-    (omega (arith, and-le-l (freePorts g) (levels ports gpio pins), ltb-true (freePorts g) 32 (free-small g h)))
+    or-lt 5 (bitAnd (freePorts g) (gpioBits ports gpio pins)) (irqLevel g interrupt)
+    (omega (arith, and-le-l (freePorts g) (gpioBits ports gpio pins), ltb-true (freePorts g) 32 (free-small g h)))
     (irq-small g interrupt)
 
 pub port-by-port : PortByPort

@@ -1,4 +1,4 @@
--- Document 01, "Ports", port by port.
+-- Believed: document 01, "Ports", port by port.
 -- Assumes nothing.
 use Prim.Native.Nat.{ℕ, _<_}
 use mathlib.Core.Bool.{Bool, false, not, _&&_}

@@ -1,4 +1,4 @@
--- Document 01, "Ports": the GPIO data register as read, from the port configuration, the stored GPIO data, the pin levels and
+-- Believed: document 01, "Ports": the GPIO data register as read, from the port configuration, the stored GPIO data, the pin levels and
 -- the interrupt.
 -- Assumes nothing.
 use Prim.Native.Nat.{ℕ, _-_, _*_, _%_}
@@ -14,8 +14,8 @@ abbrev pub freePorts : ℕ → ℕ
 freePorts groups = getD (31 ∷ 14 ∷ 12 ∷ 8 ∷ []) groups 0
 
 -- direction 0 is output, 1 input: an output gives its stored bit, an input its pin
-abbrev pub levels : ℕ → ℕ → ℕ → ℕ
-levels ports gpio pins = bitOr (bitAnd (pins % 32) (ports % 32)) (bitAnd gpio (31 - ports % 32))
+abbrev pub gpioBits : ℕ → ℕ → ℕ → ℕ
+gpioBits ports gpio pins = bitOr (bitAnd (pins % 32) (ports % 32)) (bitAnd gpio (31 - ports % 32))
 
 -- P4 reads the interrupt, 1 when raised, if any group is configured
 abbrev pub irqLevel : ℕ → ℕ → ℕ
@@ -24,4 +24,4 @@ irqLevel groups interrupt = if (eqb groups 0) 0 (interrupt % 2 * 16)
 -- group ports read 0
 abbrev pub portData : ℕ → ℕ → ℕ → ℕ → ℕ
 portData ports gpio pins interrupt =
-    bitOr (bitAnd (freePorts (groupsOf ports)) (levels ports gpio pins)) (irqLevel (groupsOf ports) interrupt)
+    bitOr (bitAnd (freePorts (groupsOf ports)) (gpioBits ports gpio pins)) (irqLevel (groupsOf ports) interrupt)

@@ -26,8 +26,8 @@ pub fn read_data(ports: u8, gpio: u8, pins: u32, interrupt: u8) -> u8
 {
     let groups = keys::groups(ports);
     let inputs = ports % 32;
-    let levels = (pins % 32) as u8 & inputs | gpio & (31 - inputs);
-    free_ports(groups) & levels | irq_level(groups, interrupt)
+    let bits = (pins % 32) as u8 & inputs | gpio & (31 - inputs);
+    free_ports(groups) & bits | irq_level(groups, interrupt)
 }
 
 // A theorem: what GPIO data reads, port by port.

@@ -1,4 +1,4 @@
--- Document 01, "Numbers a call may give": 1 to 7, in the table's order. Each is its number where the row applies, else 0.
+-- Believed: document 01, "Numbers a call may give": 1 to 7, in the table's order. Each is its number where the row applies, else 0.
 -- Assumes nothing.
 use Prim.Native.Nat.{ℕ, _+_, _/_}
 use mathlib.Core.Bool.{Bool, _&&_}

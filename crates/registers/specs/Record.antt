@@ -1,4 +1,4 @@
--- Document 01, "What the double covers": a record holds the registers, both digit planes, key state, five pin levels and the
+-- Believed: document 01, "What the double covers": a record holds the registers, both digit planes, key state, five pin levels and the
 -- blink count. Each of these replaced.
 -- Assumes nothing.
 use Prim.Native.Nat.{ℕ}

@@ -1,4 +1,4 @@
--- Document 01, "Registers": what a write stores, what a read gives and leaves.
+-- Believed: document 01, "Registers": what a write stores, what a read gives and leaves.
 -- Assumes nothing.
 use Prim.Native.Nat.{ℕ}
 use lib.ListN.{getD, set}
@@ -46,13 +46,13 @@ abbrev pub phaseOf : Registers → Plane
 phaseOf x = phaseAt (x .blink) (odd (x .config .b))
 
 -- GPIO data as read
-abbrev pub levelsOf : Registers → ℕ
-levelsOf x = portData (x .controls .ports) (x .controls .gpio) (x .pins) (x .keys .interrupt)
+abbrev pub gpioDataOf : Registers → ℕ
+gpioDataOf x = portData (x .controls .ports) (x .controls .gpio) (x .pins) (x .keys .interrupt)
 
 -- a register's data; the no-op reads 0, masks can't be read, 0x60+d reads as 0x00 (Table 6), unlisted addresses read 0
 abbrev pub dataOf : Registers → Register → ℕ
 dataOf x NoOp = 0
-dataOf x (Control c) = controlData (x .controls) c (levelsOf x)
+dataOf x (Control c) = controlData (x .controls) c (gpioDataOf x)
 dataOf x Configuration = configData (x .config) (phaseOf x)
 dataOf x (KeyMask g) = 0
 dataOf x (KeyDebounced g) = groupOf (x .keys) g .debounced

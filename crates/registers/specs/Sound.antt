@@ -1,4 +1,4 @@
--- Document 01, "What the double covers": a record is sound when every field fits its register's width and the blink count
+-- Believed: document 01, "What the double covers": a record is sound when every field fits its register's width and the blink count
 -- is below 4,000,000. Fields as wide as their type are not tested.
 -- Assumes nothing.
 use mathlib.Core.Bool.{Bool, _&&_}

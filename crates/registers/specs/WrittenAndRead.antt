@@ -1,4 +1,4 @@
--- Document 01, "Registers": what R and T do, and the registers that take nothing, or read 0.
+-- Believed: document 01, "Registers": what R and T do, and the registers that take nothing, or read 0.
 -- Assumes nothing.
 use Prim.Native.Nat.{ℕ}
 use mathlib.Core.Path.{_≡_}

@@ -1,7 +1,7 @@
 // The registers of one MAX6954 by value: what a write stores, and what a read gives and leaves.
 ghost use mathlib.Core.Path.{_≡_};
 ghost use Rattle.registers.specs.Record.{withControls, withIntensities, withKeys, withPlanes};
-ghost use Rattle.registers.specs.Registers.{configured, written, phaseOf, levelsOf, dataOf, afterRead};
+ghost use Rattle.registers.specs.Registers.{configured, written, phaseOf, gpioDataOf, dataOf, afterRead};
 ghost use Rattle.registers.specs.WrittenAndRead.{WrittenAndRead};
 use controls::Config;
 use controls::Controls;
@@ -100,8 +100,8 @@ impl Registers {
     }
 
     // The GPIO data register as read.
-    fn levels(self) -> u8
-        ensures { λ r. ⌜ r ≡ levelsOf self ⌝ }
+    fn gpio_data(self) -> u8
+        ensures { λ r. ⌜ r ≡ gpioDataOf self ⌝ }
     {
         ports::read_data(
             self.controls.ports,
@@ -122,7 +122,7 @@ impl Registers {
         let planes = self.planes;
         match register {
             Register::NoOp => 0,
-            Register::Control(control) => controls.read_data(control, self.levels()),
+            Register::Control(control) => controls.read_data(control, self.gpio_data()),
             Register::Configuration => config.read_data(self.phase()),
             Register::KeyMask(_) => 0,
             Register::KeyDebounced(group) => {

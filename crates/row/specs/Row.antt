@@ -1,4 +1,4 @@
--- A chain by value: the calls on a row of records, with the meaning that they have on a lent chain.
+-- Believed: a chain by value: the calls on a row of records, with the meaning that they have on a lent chain.
 -- Assumes nothing.
 use Prim.Native.Nat.{ℕ}
 use mathlib.Core.List.{List, _++_}

@@ -1,4 +1,5 @@
--- Document 01, "Script program": its example, a script of every other kind, and the first line in each of its cases, beside what the definitions give.
+-- Believed: document 01, "Script program": its example, a script of every other kind, and the first line in each of its cases,
+-- beside what the definitions give.
 -- Assumes nothing.
 use Prim.Native.Nat.{ℕ}
 use mathlib.Core.List.{List, [], _∷_, _++_, map}

@@ -1,4 +1,4 @@
--- Document 01, "Script program": the records of a script.
+-- Believed: document 01, "Script program": the records of a script.
 -- Assumes nothing.
 use Prim.Native.Nat.{ℕ, zero, suc, _+_, _*_, _-_}
 use mathlib.Core.Bool.{Bool, false, _&&_}

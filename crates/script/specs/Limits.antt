@@ -1,4 +1,4 @@
--- Document 01, number 9, and a run without room: what scripts of every length do.
+-- Believed: document 01, number 9, and a run without room: what scripts of every length do.
 -- Assumes nothing.
 use Prim.Native.Nat.{ℕ, _+_, _*_, _<_, _≤_}
 use mathlib.Core.List.{List}

@@ -1,4 +1,4 @@
--- The parts of a run: what the functions behind it leave. Nothing here is needed to read what a run prints.
+-- Auxiliary: the parts of a run: what the functions behind it leave. Nothing here is needed to read what a run prints.
 -- Assumes nothing.
 use Prim.Native.Nat.{ℕ, _+_, _*_, _≤_}
 use mathlib.Core.List.{List, []}

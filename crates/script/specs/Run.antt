@@ -1,4 +1,4 @@
--- A script run into lent room: what the call leaves there.
+-- Believed: a script run into lent room: what the call leaves there.
 -- Assumes nothing.
 use Prim.Native.Nat.{ℕ, _+_, _*_}
 use mathlib.Core.List.{List, _++_}

@@ -1,4 +1,4 @@
--- Document 01, "Script program": what the panel program prints for a script.
+-- Believed: document 01, "Script program": what the panel program prints for a script.
 -- Assumes nothing.
 use Prim.Native.Nat.{ℕ}
 use mathlib.Core.List.{List, [], _∷_, _++_}

@@ -7,7 +7,6 @@ ghost use Rattle.refusals.specs.Refusals.{bytesFor, sizeRefusal};
 ghost use Rattle.wire.specs.Bits.{bits, value, unpack, pack};
 ghost use Rattle.wire.specs.Wire.{words, answer, shifted};
 ghost use Rattle.wire.specs.Shift.{wordsAfter, roomAfter};
-ghost use Rattle.wire.specs.Sizes.{Sizes};
 ghost use Rattle.wire.specs.Whole.{WholeAccess};
 ghost use Rattle.wire.specs.Line.{wordBytes};
 
@@ -97,23 +96,6 @@ fn clear_spare(clocks: usize, room: &mut [u8])
     }
 }
 
-// The lowest of 3, 4 and 5 that applies to an access, else 0.
-pub fn size_refusal(clocks: usize, sent: usize, room: usize) -> u8
-    ensures { λ r. ⌜ r ≡ sizeRefusal clocks sent room ⌝ }
-{
-    if 4096 < clocks {
-        return 3;
-    }
-    let count = (clocks + 7) / 8;
-    if sent < count {
-        return 4;
-    }
-    if room < count {
-        return 5;
-    }
-    0
-}
-
 // An access of at least 16 clocks for each driver: the old words are answered whole, and the new words are bits that were sent.
 fn shift_whole(words: &mut [u16], n: usize, clocks: usize, sent: &[u8], room: &mut [u8])
     requires { ⌜ (n ≤ 16) × (n ≤ length (now words)) × (16 * n ≤ clocks) × (bytesFor clocks ≤ length (now sent)) × (bytesFor clocks ≤ length (now room)) × (clocks ≤ 4096) ⌝ }
@@ -151,7 +133,7 @@ pub fn shift(words: &mut [u16], n: usize, clocks: usize, sent: &[u8], room: &mut
     if words.len() < n {
         return;
     }
-    if size_refusal(clocks, sent.len(), room.len()) != 0 {
+    if refusals::size_refusal(clocks, sent.len(), room.len()) != 0 {
         return;
     }
     if 16 * n <= clocks {
@@ -164,9 +146,4 @@ pub fn shift(words: &mut [u16], n: usize, clocks: usize, sent: &[u8], room: &mut
 // A theorem: an access of at least 16 clocks for each driver.
 pub fn whole_access()
     ensures { λ _. ⌜ WholeAccess ⌝ }
-{}
-
-// A theorem: the numbers 3, 4 and 5 of an access, by bits.
-pub fn sizes()
-    ensures { λ _. ⌜ Sizes ⌝ }
 {}

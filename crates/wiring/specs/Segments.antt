@@ -1,4 +1,4 @@
--- Document 01, "Segments and brightness": the segments of a cathode by their names, each display's list of them, and the bit that lights each.
+-- Believed: document 01, "Segments and brightness": the segments of a cathode by their names, each display's list of them, and the bit that lights each.
 -- Assumes nothing.
 use Prim.Native.Nat.{ℕ}
 use mathlib.Core.Bool.{Bool, true, false}

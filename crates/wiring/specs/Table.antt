@@ -1,4 +1,4 @@
--- Document 01, "Segments and brightness": the wiring as one table of 456 entries, row for row Tables 2 to 4.
+-- Believed: document 01, "Segments and brightness": the wiring as one table of 456 entries, row for row Tables 2 to 4.
 -- Assumes nothing.
 use Prim.Native.Nat.{ℕ, _+_, _-_, _*_, _<_}
 use mathlib.Core.Bool.{_||_}

@@ -1,4 +1,4 @@
--- Document 01, "Segments and brightness": the pins of a cathode (Tables 2 to 4).
+-- Believed: document 01, "Segments and brightness": the pins of a cathode (Tables 2 to 4).
 -- Assumes nothing.
 use Prim.Native.Nat.{ℕ, _+_, _-_}
 use lib.Dec.{eqb, ltb}

@@ -1,4 +1,4 @@
--- Document 01, "Bits on the wire": a word is a write or a read, and names one kind of register; "Registers": addresses follow Table 6.
+-- Believed: document 01, "Bits on the wire": a word is a write or a read, and names one kind of register; "Registers": addresses follow Table 6.
 -- Assumes nothing.
 use Prim.Native.Nat.{ℕ, _/_, _%_}
 use mathlib.Core.List.{List, [], _∷_}

@@ -1,4 +1,4 @@
--- Table 6, the register address map, row by row in its order; document 01, "Registers": addresses follow Table 6.
+-- Believed: Table 6, the register address map, row by row in its order; document 01, "Registers": addresses follow Table 6.
 -- Assumes nothing.
 use Prim.Native.Nat.{ℕ, _+_}
 use mathlib.Core.List.{List, [], _∷_, _++_, map}

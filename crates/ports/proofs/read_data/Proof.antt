@@ -6,11 +6,11 @@ use Rattle.ports.proofs.read_data.Tie as tie
 groups-requires : tie.Need-groups-requires
 groups-requires c κs = search needs
 
-cast-levels : tie.Need-cast-levels
-cast-levels c = search needs
+cast-bits : tie.Need-cast-bits
+cast-bits c = search needs
 
-sub-levels : tie.Need-sub-levels
-sub-levels c = search needs
+sub-bits : tie.Need-sub-bits
+sub-bits c = search needs
 
 free-ports-requires : tie.Need-free-ports-requires
 free-ports-requires c κs = search needs
@@ -26,8 +26,8 @@ read-data-spec =
     tie.close
     (tie.spec
     groups-requires
-    cast-levels
-    sub-levels
+    cast-bits
+    sub-bits
     free-ports-requires
     irq-level-requires
     returns)

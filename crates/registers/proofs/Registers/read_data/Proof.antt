@@ -9,8 +9,8 @@ enum-told c = search needs
 enum-known-register : tie.Need-enum-known-register
 enum-known-register c = search needs
 
-levels-requires : tie.Need-levels-requires
-levels-requires c κs = search needs
+gpio-data-requires : tie.Need-gpio-data-requires
+gpio-data-requires c κs = search needs
 
 read-data-requires : tie.Need-read-data-requires
 read-data-requires c κs = search needs
@@ -61,7 +61,7 @@ returns : tie.Need-returns
 returns c = simp (c .enum-told .given .1)
 
 returns-2 : tie.Need-returns-2
-returns-2 c = simp (c .before .before .before .register .given .1, c .before .levels .ensures, c .read-data .ensures)
+returns-2 c = simp (c .before .before .before .register .given .1, c .before .gpio-data .ensures, c .read-data .ensures)
 
 returns-3 : tie.Need-returns-3
 returns-3 c = simp (c .before .before .enum-told2 .given .1, c .before .phase .ensures, c .read-data2 .ensures)
@@ -93,7 +93,7 @@ read-data-spec =
     (tie.spec
     enum-told
     enum-known-register
-    levels-requires
+    gpio-data-requires
     read-data-requires
     enum-told-2
     phase-requires

@@ -1,8 +1,8 @@
--- `wire::size_refusal` meets its contract: each return has the tests that led there. Assumes nothing.
+-- `refusals::size_refusal` meets its contract: each return has the tests that led there. Assumes nothing.
 use borrow.Author.Needs.{needs}
 use Rattle.ground.proofs.Tests.{tests}
-use Rattle.wire.proofs.size_refusal.Statement.{statement}
-use Rattle.wire.proofs.size_refusal.Tie as tie
+use Rattle.refusals.proofs.size_refusal.Statement.{statement}
+use Rattle.refusals.proofs.size_refusal.Tie as tie
 
 returns : tie.Need-returns
 returns c = search tests

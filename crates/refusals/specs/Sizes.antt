@@ -1,8 +1,8 @@
--- Document 01, "Numbers a call may give", rows 3, 4 and 5, by bits: c clocks need c/8 bytes, rounded up.
+-- Believed: document 01, "Numbers a call may give", rows 3, 4 and 5, by bits: c clocks need c/8 bytes, rounded up.
 -- Assumes nothing.
 use Prim.Native.Nat.{ℕ, _*_, _<_, _≤_}
 use mathlib.Core.Path.{_≡_}
 use Rattle.refusals.specs.Refusals.{sizeRefusal}
 
 -- the lowest that applies, for every access
 pub record Sizes : Type 0 where

@@ -1,0 +1,10 @@
+-- `refusals::sizes` meets its contract. Assumes nothing.
+use Rattle.refusals.proofs.SizeLaws.{sizes}
+use Rattle.refusals.proofs.sizes.Statement.{statement}
+use Rattle.refusals.proofs.sizes.Tie as tie
+
+returns : tie.Need-returns
+returns c = sizes
+
+pub sizes-spec : {M : Type 1} → statement M
+sizes-spec = tie.close (tie.spec returns)

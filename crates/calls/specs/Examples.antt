@@ -1,4 +1,5 @@
--- Believed: document 01, "Bench examples", in one table, and "Numbers a call may give", row by row: what the definitions give beside what the document says.
+-- Believed: document 01, "Bench examples", 10 and 11 in the table of the display, the others in one, and "Numbers a call
+-- may give", 1 to 7, 3 by example 12: what the definitions give beside what the document says.
 -- Assumes nothing.
 use Prim.Native.Nat.{ℕ, _+_}
 use mathlib.Core.List.{List, [], _∷_, _++_, map}

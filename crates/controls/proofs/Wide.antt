@@ -12,7 +12,7 @@ use Rattle.words.specs.declared.Plane.{Plane}
 use Rattle.words.specs.declared.Plane.the-variants.{P0, P1}
 use Rattle.words.specs.declared.ControlRegister.{ControlRegister}
 use Rattle.words.specs.declared.ControlRegister.the-variants.{DecodeMode, GlobalIntensity, ScanLimit, GpioData, PortConfiguration, DisplayTest, DigitType}
-use Rattle.ground.proofs.Below.{all, all-at}
+use Rattle.ground.proofs.Below.{all-at}
 use Rattle.ground.proofs.Truth.{and-left, and-right}
 use Rattle.controls.specs.Controls.{controlWritten, soundControls}
 use Rattle.controls.specs.Config.{configOf, phaseBit, configData}

@@ -1,4 +1,4 @@
--- Believed: document 01, "Registers": the control registers, written and read.
+-- Believed: document 01, "Registers": the control registers but configuration (0x04), written and read.
 -- Assumes nothing.
 use Prim.Native.Nat.{ℕ, _%_}
 use mathlib.Core.Bool.{Bool, _&&_}

@@ -1,4 +1,5 @@
 pub mod Bench
 pub mod PoweredUp
 pub mod Shift
+pub mod Fitted
 pub mod Sound

@@ -1,16 +1,16 @@
 -- Table 15, by computation.
 -- Assumes nothing.
-use Prim.Native.Nat.{ℕ, _+_, _*_, _%_}
+use Prim.Native.Nat.{ℕ, _+_, _*_}
 use mathlib.Core.List.{map}
 use mathlib.Core.Path.{_≡_, refl}
 use Rattle.device.specs.PowerUp.{powerUp}
 use Rattle.device.specs.Taken.{taken}
-use Rattle.device.specs.Table15.{table15, after, full, Table15}
+use Rattle.device.specs.Table15.{table15, afterWords, full, Table15}
 
-rows-written : after full (map (λ (row : ℕ × ℕ). row .0 * 256 + row .1) table15) .registers ≡ powerUp .registers
+rows-written : afterWords full (map (λ (row : ℕ × ℕ). row .0 * 256 + row .1) table15) .registers ≡ powerUp .registers
 unfolding taken
 rows-written = refl
 
 pub powered-up : Table15
 unfolding taken
-powered-up = record { rows-written = rows-written; rows-read = refl; beside = refl }
+powered-up = record { rows-written = rows-written; rows-read = refl; beside = refl; held = refl }

@@ -6,7 +6,7 @@ use Rattle.ground.specs.Lists.{Agree}
 use Rattle.device.specs.PowerUp.{powerUp}
 use Rattle.device.specs.Taken.{taken}
 use Rattle.device.specs.Steps.{scanned, clocked}
-use Rattle.device.specs.Table15.{after, full}
+use Rattle.device.specs.Table15.{afterWords, full}
 use Rattle.device.specs.declared.Device.{Device}
 
 -- what a driver alone on the wire answers to words: the shift word that each finds
@@ -54,14 +54,14 @@ registerRows =
       found full (0x8000 ∷ 0x8800 ∷ 0x8B00 ∷ 0x8C00 ∷ 0x9800 ∷ 0xB000 ∷ 0xD000 ∷ 0xE000 ∷ 0xEF00 ∷ 0xF000 ∷ []),
       0 ∷ 0 ∷ 0 ∷ 0 ∷ 0 ∷ 0 ∷ 0 ∷ 0 ∷ 0 ∷ 0 ∷ [],
     )
-    -- unused bits read 0: 0x01 to 0x07 and 0x10 written with FF, of 0x05 as outputs; P I 0 0 E B 0 S
+    -- unused bits read 0: 0x01 to 0x05, 0x07 and 0x10 written with FF, 0x05 as outputs; P I 0 0 E B 0 S
     ∷ (
       found (taken full 0x0600) (0x8100 ∷ 0x8200 ∷ 0x8300 ∷ 0x8400 ∷ 0x8500 ∷ 0x8700 ∷ 0x9000 ∷ []),
       0xFF ∷ 0x0F ∷ 0x07 ∷ 0xCD ∷ 0x1F ∷ 0x01 ∷ 0xFF ∷ [],
     )
     -- 0x60+d writes both planes; R sets their bytes to 0, the intensities stay
-    ∷ (found (after powerUp (0x6055 ∷ 0x1077 ∷ [])) (0xA000 ∷ 0xC000 ∷ 0x9000 ∷ []), 0x55 ∷ 0x55 ∷ 0x77 ∷ [])
-    ∷ (found (after powerUp (0x6055 ∷ 0x1077 ∷ 0x0420 ∷ [])) (0xA000 ∷ 0xC000 ∷ 0x9000 ∷ []), 0 ∷ 0 ∷ 0x77 ∷ [])
+    ∷ (found (afterWords powerUp (0x6055 ∷ 0x1077 ∷ [])) (0xA000 ∷ 0xC000 ∷ 0x9000 ∷ []), 0x55 ∷ 0x55 ∷ 0x77 ∷ [])
+    ∷ (found (afterWords powerUp (0x6055 ∷ 0x1077 ∷ 0x0420 ∷ [])) (0xA000 ∷ 0xC000 ∷ 0x9000 ∷ []), 0 ∷ 0 ∷ 0x77 ∷ [])
     -- T sets the blink count to 0
     ∷ (map (λ n. phaseRead (taken (clocked powerUp 5) 0x0410) n) (1999999 ∷ 2000000 ∷ []), 1 ∷ 0 ∷ [])
     ∷ []
@@ -78,11 +78,11 @@ keyRows =
     ∷ (found (twice (taken powerUp 0x06E0)) (0x8B00 ∷ 0x8F00 ∷ []), 8 ∷ 8 ∷ [])
     -- each mask raises the interrupt, P4, for the keys of its own group; writes to 0x0D..0x0F do nothing
     ∷ (
-      map (λ w. taken (twice (after powerUp (0x0680 ∷ w ∷ []))) 0x8500 .shift % 256) (0x0801 ∷ 0x0902 ∷ 0x0A04 ∷ 0x0B08 ∷ 0x0802 ∷ 0x0B04 ∷ 0x0D08 ∷ []),
+      map (λ w. taken (twice (afterWords powerUp (0x0680 ∷ w ∷ []))) 0x8500 .shift % 256) (0x0801 ∷ 0x0902 ∷ 0x0A04 ∷ 0x0B08 ∷ 0x0802 ∷ 0x0B04 ∷ 0x0D08 ∷ []),
       16 ∷ 16 ∷ 16 ∷ 16 ∷ 0 ∷ 0 ∷ 0 ∷ [],
     )
     -- reading any debounced register clears it and the interrupt, and leaves the others
-    ∷ (found (taken (twice (after powerUp (0x0680 ∷ 0x0801 ∷ []))) 0x8900) (0x8500 ∷ 0x8800 ∷ 0x8900 ∷ []), 0 ∷ 1 ∷ 0 ∷ [])
+    ∷ (found (taken (twice (afterWords powerUp (0x0680 ∷ 0x0801 ∷ []))) 0x8900) (0x8500 ∷ 0x8800 ∷ 0x8900 ∷ []), 0 ∷ 1 ∷ 0 ∷ [])
     ∷ []
 
 -- what the definitions give is what the document says

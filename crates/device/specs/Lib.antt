@@ -5,5 +5,6 @@ pub mod Taken
 pub mod Steps
 pub mod Soundness
 pub mod ShiftWord
+pub mod FittedByte
 pub mod Table15
 pub mod Examples

@@ -12,7 +12,7 @@ use Rattle.device.specs.declared.Device.{Device}
 abbrev pub controls : Controls
 controls = record { decode = 0xFF; global = 0; limit = 7; gpio = 0; ports = 0x1F; test = 0; types = 0 }
 
--- control register: shutdown on, slow, blink disabled, global intensity
+-- configuration register, Table 15's "Control Register": shutdown on, slow, blink disabled, global intensity
 abbrev pub config : Config
 config = record { i = 0; e = 0; b = 0; s = 0 }
 

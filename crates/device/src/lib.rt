@@ -7,6 +7,7 @@ ghost use Rattle.device.specs.Taken.{answerWord, answered, taken};
 ghost use Rattle.device.specs.Steps.{scanned, clocked, shownPlane};
 ghost use Rattle.device.specs.Soundness.{Soundness};
 ghost use Rattle.device.specs.ShiftWord.{ShiftWord};
+ghost use Rattle.device.specs.FittedByte.{FittedByte};
 ghost use Rattle.device.specs.Table15.{Table15};
 ghost use Rattle.device.specs.Examples.{Examples};
 use controls::Config;
@@ -182,6 +183,11 @@ pub fn soundness()
 // A theorem: the shift word after a word is taken.
 pub fn shift_word()
     ensures { λ _. ⌜ ShiftWord ⌝ }
+{}
+
+// A theorem: nothing that a driver is given changes its fitted byte.
+pub fn fitted_byte()
+    ensures { λ _. ⌜ FittedByte ⌝ }
 {}
 
 // A theorem: the power-up record is what Table 15 says.

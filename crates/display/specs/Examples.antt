@@ -7,7 +7,7 @@ use Rattle.ground.specs.Lists.{Agree}
 use Rattle.device.specs.PowerUp.{powerUp}
 use Rattle.device.specs.Record.{withFitted}
 use Rattle.device.specs.Taken.{taken}
-use Rattle.device.specs.Table15.{after}
+use Rattle.device.specs.Table15.{afterWords}
 use Rattle.device.specs.declared.Device.{Device}
 use Rattle.ground.specs.Choice.{if}
 use Rattle.wiring.specs.Segments.{Segment, a1, a2, b, dp, 1a, 1b, 1c, 1d, 1e, 1f, 1g, 1dp}
@@ -25,7 +25,7 @@ pinsOf x d pins = map (λ p. pinCode (pinAt x d [] [] p)) pins
 abbrev pub litOf : Device → ℕ → List Segment → List ℕ
 litOf x d segments = map (λ s. if (lit x d [] [] s) 1 0) segments
 
--- whether each cathode's own pin is driven
+-- the code of each cathode's own pin
 abbrev pub pinsAtOwn : Device → List ℕ → List ℕ
 pinsAtOwn x ds = map (λ d. pinCode (pinAt x d [] [] d)) ds
 
@@ -71,23 +71,23 @@ abbrev pub segmentRows : List (List ℕ × List ℕ)
 segmentRows =
     -- in shutdown, and above a scan limit of 3, a cathode is dark; in test none is
     (pinsAtOwn powerUp (0 ∷ 7 ∷ []), map pinCode (NotDriven ∷ NotDriven ∷ []))
-    ∷ (pinsAtOwn (after powerUp (0x0401 ∷ 0x0303 ∷ [])) (0 ∷ 3 ∷ 4 ∷ 7 ∷ []), map pinCode (Cathode ∷ Cathode ∷ NotDriven ∷ NotDriven ∷ []))
-    ∷ (pinsAtOwn (after powerUp (0x0701 ∷ 0x0303 ∷ [])) (0 ∷ 3 ∷ 4 ∷ 7 ∷ []), map pinCode (Cathode ∷ Cathode ∷ Cathode ∷ Cathode ∷ []))
+    ∷ (pinsAtOwn (afterWords powerUp (0x0401 ∷ 0x0303 ∷ [])) (0 ∷ 3 ∷ 4 ∷ 7 ∷ []), map pinCode (Cathode ∷ Cathode ∷ NotDriven ∷ NotDriven ∷ []))
+    ∷ (pinsAtOwn (afterWords powerUp (0x0701 ∷ 0x0303 ∷ [])) (0 ∷ 3 ∷ 4 ∷ 7 ∷ []), map pinCode (Cathode ∷ Cathode ∷ Cathode ∷ Cathode ∷ []))
     -- test lights every segment of a 7-segment pair, of which O3 of cathode 0 carries none; 7 sixteenths, whatever the nibbles
     ∷ (pinsOf (taken powerUp 0x0701) 0 (1 ∷ 2 ∷ 3 ∷ 4 ∷ 18 ∷ []), map pinCode (NotDriven ∷ Lit ∷ NoSegment ∷ Lit ∷ Lit ∷ []))
-    ∷ (map (λ n. brightnessOf (after powerUp (0x0701 ∷ (0x0200 + n) ∷ [])) 0) (0x0 ∷ 0xF ∷ []), 7 ∷ 7 ∷ [])
+    ∷ (map (λ n. brightnessOf (afterWords powerUp (0x0701 ∷ (0x0200 + n) ∷ [])) 0) (0x0 ∷ 0xF ∷ []), 7 ∷ 7 ∷ [])
     -- 0x13 holds digits 6 and 7, the odd one in the high nibble
-    ∷ (map (λ i. brightnessOf (after powerUp (0x0441 ∷ 0x1321 ∷ [])) i) (5 ∷ 6 ∷ 7 ∷ 14 ∷ []), 1 ∷ 2 ∷ 3 ∷ 1 ∷ [])
+    ∷ (map (λ i. brightnessOf (afterWords powerUp (0x0441 ∷ 0x1321 ∷ [])) i) (5 ∷ 6 ∷ 7 ∷ 14 ∷ []), 1 ∷ 2 ∷ 3 ∷ 1 ∷ [])
     -- brightness doesn't depend on darkness: in shutdown, and above the scan limit
-    ∷ (map (λ i. brightnessOf (after powerUp (0x020A ∷ 0x0300 ∷ [])) i) (0 ∷ 7 ∷ []), 11 ∷ 11 ∷ [])
+    ∷ (map (λ i. brightnessOf (afterWords powerUp (0x020A ∷ 0x0300 ∷ [])) i) (0 ∷ 7 ∷ []), 11 ∷ 11 ∷ [])
     -- cathode 0 is 14-segment, under its own table: a word of bit 11 lights d, O6, alone
     ∷ (
-      map (λ p. pinCode (pinAt (after powerUp (0x0401 ∷ 0x0C01 ∷ 0x2000 ∷ [])) 0 (0x0800 ∷ []) (0xF7FF ∷ []) p)) (2 ∷ 3 ∷ 6 ∷ 7 ∷ 18 ∷ []),
+      map (λ p. pinCode (pinAt (afterWords powerUp (0x0401 ∷ 0x0C01 ∷ 0x2000 ∷ [])) 0 (0x0800 ∷ []) (0xF7FF ∷ []) p)) (2 ∷ 3 ∷ 6 ∷ 7 ∷ 18 ∷ []),
       map pinCode (Unlit ∷ NoSegment ∷ Lit ∷ NoSegment ∷ Unlit ∷ []),
     )
     -- and 16-segment under the other one, where no 7-segment pair is fitted
     ∷ (
-      map (λ p. pinCode (pinAt (after (withFitted powerUp 0) (0x0401 ∷ 0x2000 ∷ [])) 0 (0x0800 ∷ []) (0xF7FF ∷ []) p)) (2 ∷ 3 ∷ 6 ∷ 7 ∷ 18 ∷ []),
+      map (λ p. pinCode (pinAt (afterWords (withFitted powerUp 0) (0x0401 ∷ 0x2000 ∷ [])) 0 (0x0800 ∷ []) (0xF7FF ∷ []) p)) (2 ∷ 3 ∷ 6 ∷ 7 ∷ 18 ∷ []),
       map pinCode (Lit ∷ Lit ∷ Unlit ∷ Lit ∷ Unlit ∷ []),
     )
     ∷ []

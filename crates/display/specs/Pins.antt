@@ -38,7 +38,7 @@ wirePin x d font14 font16 w = if (dark x d) NotDriven (pinOf (segmentOn x d font
 abbrev pub pinAt : Device → ℕ → List ℕ → List ℕ → ℕ → Pin
 pinAt x d font14 font16 p = wirePin x d font14 font16 (wireAt (displayOf x d) d p)
 
--- a segment of cathode d is lit where a pin that carries it is
+-- a segment of the list of cathode d's display is lit where a pin that carries it is
 abbrev pub lit : Device → ℕ → List ℕ → List ℕ → Segment → Bool
 lit x d font14 font16 s = eqb (pinCode (wirePin x d font14 font16 (carries s))) (pinCode Lit)
 

@@ -12,7 +12,7 @@ use borrow.Author.Tests.{eqb-true}
 use Rattle.ground.specs.Choice.{if, bit, some}
 use Rattle.words.specs.declared.KeyGroup.{KeyGroup}
 use Rattle.words.specs.declared.KeyGroup.the-variants.{A, B, C, D}
-use Rattle.ground.proofs.Below.{all, all-at}
+use Rattle.ground.proofs.Below.{all-at}
 use Rattle.ground.proofs.Bits.{and-bit, or-bit, not-bit, some-bit}
 use Rattle.keys.specs.Keys.{groupOf, withGroup, withInterrupt, debouncedRead, groupsOf, closedOf, newly, scannedGroup, raises, scannedKeys}
 use Rattle.keys.specs.KeyByKey.{table32, placeOf, keysOf, KeyScanned, KeyByKey}

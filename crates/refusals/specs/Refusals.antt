@@ -7,7 +7,7 @@ use lib.Dec.{eqb, leb, ltb}
 use lib.ListN.{length}
 use Rattle.ground.specs.Choice.{if}
 
--- c clocks need c/8 bytes, rounded up
+-- "Bits on the wire": c clocks need c/8 bytes, rounded up
 abbrev pub bytesFor : ℕ → ℕ
 bytesFor c = (c + 7) / 8
 

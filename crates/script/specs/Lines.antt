@@ -1,4 +1,4 @@
--- Believed: document 01, "Script program": the lines that the panel program prints, as bytes in ASCII: a newline, which ends each, is 10, a space 32, `0` 48,
+-- Believed: document 01, "Script program": the lines that the panel program prints, as bytes in ASCII: a newline, which ends each, is 10, a space 32, `0` 48, `1` 49,
 -- `A` 65, `C` 67, `R` 82, `S` 83, `-` 45, and `chain` 99 104 97 105 110.
 -- Assumes nothing.
 use Prim.Native.Nat.{ℕ, _+_, _/_, _%_}

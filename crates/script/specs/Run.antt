@@ -1,4 +1,4 @@
--- Believed: a script run into lent room: what the call leaves there.
+-- Believed: DECISIONS 53, a script run into lent room: what the call leaves there. 5 is tested before document 01's 9.
 -- Assumes nothing.
 use Prim.Native.Nat.{ℕ, _+_, _*_}
 use mathlib.Core.List.{List, _++_}

@@ -19,7 +19,7 @@ digitBy d (second n) = d + 8
 abbrev pub digitOf : ℕ → Segment → ℕ
 digitOf d s = digitBy d (lightOf s)
 
--- what a pin is to a cathode
+-- what a pin is to a cathode; the serial lines are the crate `wire`'s
 pub data Wire : Type 0 where
   cathode : Wire
   notDriven : Wire

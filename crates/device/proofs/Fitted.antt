@@ -1,0 +1,27 @@
+-- Nothing that a driver is given changes its fitted byte.
+-- Assumes nothing.
+use Prim.Native.Nat.{ℕ}
+use mathlib.Core.Path.{_≡_, refl}
+use Rattle.words.specs.Addresses.{wordOf}
+use Rattle.words.specs.declared.Word.{Word}
+use Rattle.words.specs.declared.Word.the-variants.{Write, Read}
+use Rattle.device.specs.Record.{withShift}
+use Rattle.device.specs.Taken.{obeyed, taken}
+use Rattle.device.specs.FittedByte.{FittedByte}
+use Rattle.device.specs.declared.Device.{Device}
+
+obeyed-fitted : (d : Device) (w : Word) → obeyed d w .fitted ≡ d .fitted
+obeyed-fitted d (Write r v) = refl
+obeyed-fitted d (Read r) = refl
+
+taken-fitted : (d : Device) (w : ℕ) → taken d w .fitted ≡ d .fitted
+unfolding taken
+taken-fitted d w = obeyed-fitted (withShift d w) (wordOf w)
+
+pub fitted-byte : FittedByte
+fitted-byte = record {
+  after-word = taken-fitted;
+  after-scan = λ x a b c d. refl;
+  after-pins = λ d levels. refl;
+  after-clocks = λ d clocks. refl;
+}

@@ -1,0 +1,10 @@
+-- `device::fitted_byte` meets its contract. Assumes nothing.
+use Rattle.device.proofs.Fitted.{fitted-byte}
+use Rattle.device.proofs.fitted_byte.Statement.{statement}
+use Rattle.device.proofs.fitted_byte.Tie as tie
+
+returns : tie.Need-returns
+returns c = fitted-byte
+
+pub fitted-byte-spec : {M : Type 1} → statement M
+fitted-byte-spec = tie.close (tie.spec returns)

@@ -5,7 +5,7 @@ use Prim.Native.Nat.{ℕ, _+_}
 use mathlib.Core.List.{List, [], _∷_, _++_, map}
 use lib.ListN.{replicate}
 use Rattle.ground.specs.Lists.{tabulate, Agree}
-use Rattle.device.specs.PowerUp.{powerUp}
+use Rattle.device.specs.PowerUp.{powerUp, freshChain}
 use Rattle.device.specs.Record.{withPins, withBlink}
 use Rattle.device.specs.Taken.{taken}
 use Rattle.device.specs.Examples.{rows as driverRows}
@@ -15,10 +15,6 @@ use Rattle.calls.specs.Calls.{scan, levels, Question, plane, segments, b
 use Rattle.calls.specs.Served.{recordOf}
 use Rattle.calls.specs.Outcome.{number, reply}
 use Rattle.calls.specs.CallLists.{afterAll, numbers, replies}
-
--- a chain of n drivers at power-up
-abbrev pub fresh : ℕ → List Device
-fresh n = replicate n powerUp
 
 -- an access whose answer bytes have just room enough
 abbrev pub accessOf : ℕ → List ℕ → Call
@@ -42,21 +38,21 @@ abbrev pub chainRows : List (List ℕ × List ℕ)
 chainRows =
     -- 1: n=1, power-up, 0401, 8400, 0000: answers 0000, 0401, 8481
     (
-      joined (replies (accessOf 16 (0x04 ∷ 0x01 ∷ []) ∷ accessOf 16 (0x84 ∷ 0x00 ∷ []) ∷ accessOf 16 (0x00 ∷ 0x00 ∷ []) ∷ []) (fresh 1)),
+      joined (replies (accessOf 16 (0x04 ∷ 0x01 ∷ []) ∷ accessOf 16 (0x84 ∷ 0x00 ∷ []) ∷ accessOf 16 (0x00 ∷ 0x00 ∷ []) ∷ []) (freshChain 1)),
       0x00 ∷ 0x00 ∷ 0x04 ∷ 0x01 ∷ 0x84 ∷ 0x81 ∷ [],
     )
     -- 2: n=1, 17 clocks, a 1 and then 0203: global intensity 3
-    ∷ (stateOf (accessOf 17 (0x81 ∷ 0x01 ∷ 0x80 ∷ []) ∷ []) (fresh 1) 1, 0x0203 ∷ 3 ∷ 7 ∷ [])
+    ∷ (stateOf (accessOf 17 (0x81 ∷ 0x01 ∷ 0x80 ∷ []) ∷ []) (freshChain 1) 1, 0x0203 ∷ 3 ∷ 7 ∷ [])
     -- 3: then 0 clocks: 0203 is taken again; no answer bits
-    ∷ (stateOf (accessOf 17 (0x81 ∷ 0x01 ∷ 0x80 ∷ []) ∷ accessOf 0 [] ∷ []) (fresh 1) 1, 0x0203 ∷ 3 ∷ 7 ∷ [])
+    ∷ (stateOf (accessOf 17 (0x81 ∷ 0x01 ∷ 0x80 ∷ []) ∷ accessOf 0 [] ∷ []) (freshChain 1) 1, 0x0203 ∷ 3 ∷ 7 ∷ [])
     ∷ (
-      joined (replies (accessOf 17 (0x81 ∷ 0x01 ∷ 0x80 ∷ []) ∷ access 0 [] (0xEE ∷ []) ∷ []) (fresh 1)),
+      joined (replies (accessOf 17 (0x81 ∷ 0x01 ∷ 0x80 ∷ []) ∷ access 0 [] (0xEE ∷ []) ∷ []) (freshChain 1)),
       0x00 ∷ 0x00 ∷ 0x80 ∷ 0xEE ∷ [],
     )
-    ∷ (numbers (accessOf 17 (0x81 ∷ 0x01 ∷ 0x80 ∷ []) ∷ accessOf 0 [] ∷ []) (fresh 1), 0 ∷ 0 ∷ [])
+    ∷ (numbers (accessOf 17 (0x81 ∷ 0x01 ∷ 0x80 ∷ []) ∷ accessOf 0 [] ∷ []) (freshChain 1), 0 ∷ 0 ∷ [])
     -- 3, of a read: the debounced key is taken by 8800, and the same word, taken again at 0 clocks, finds none
     ∷ (
-      map (λ qs. recordOf (afterAll qs (fresh 1)) 1 .shift)
+      map (λ qs. recordOf (afterAll qs (freshChain 1)) 1 .shift)
           (
           (accessOf 16 (0x06 ∷ 0x20 ∷ []) ∷ give 1 (scan 1 0 0 0) ∷ give 1 (scan 1 0 0 0) ∷ accessOf 16 (0x88 ∷ 0x00 ∷ []) ∷ [])
           ∷ (accessOf 16 (0x06 ∷ 0x20 ∷ []) ∷ give 1 (scan 1 0 0 0) ∷ give 1 (scan 1 0 0 0) ∷ accessOf 16 (0x88 ∷ 0x00 ∷ []) ∷ accessOf 0 [] ∷ [])
@@ -65,14 +61,14 @@ chainRows =
       0x8801 ∷ 0x8800 ∷ [],
     )
     -- 4: n=2, 32 clocks, 0000 0303: driver 1 has scan limit 3, driver 2 a no-op
-    ∷ (stateOf (accessOf 32 (0x00 ∷ 0x00 ∷ 0x03 ∷ 0x03 ∷ []) ∷ []) (fresh 2) 1, 0x0303 ∷ 0 ∷ 3 ∷ [])
-    ∷ (stateOf (accessOf 32 (0x00 ∷ 0x00 ∷ 0x03 ∷ 0x03 ∷ []) ∷ []) (fresh 2) 2, 0x0000 ∷ 0 ∷ 7 ∷ [])
+    ∷ (stateOf (accessOf 32 (0x00 ∷ 0x00 ∷ 0x03 ∷ 0x03 ∷ []) ∷ []) (freshChain 2) 1, 0x0303 ∷ 0 ∷ 3 ∷ [])
+    ∷ (stateOf (accessOf 32 (0x00 ∷ 0x00 ∷ 0x03 ∷ 0x03 ∷ []) ∷ []) (freshChain 2) 2, 0x0000 ∷ 0 ∷ 7 ∷ [])
     -- 5: n=2, power-up, 16 clocks 0305: driver 1 takes it, driver 2 takes 0000
-    ∷ (stateOf (accessOf 16 (0x03 ∷ 0x05 ∷ []) ∷ []) (fresh 2) 1, 0x0305 ∷ 0 ∷ 5 ∷ [])
-    ∷ (stateOf (accessOf 16 (0x03 ∷ 0x05 ∷ []) ∷ []) (fresh 2) 2, 0x0000 ∷ 0 ∷ 7 ∷ [])
+    ∷ (stateOf (accessOf 16 (0x03 ∷ 0x05 ∷ []) ∷ []) (freshChain 2) 1, 0x0305 ∷ 0 ∷ 5 ∷ [])
+    ∷ (stateOf (accessOf 16 (0x03 ∷ 0x05 ∷ []) ∷ []) (freshChain 2) 2, 0x0000 ∷ 0 ∷ 7 ∷ [])
     -- 12: 4,096 clocks served; 4,097 gives 3
     ∷ (
-      number (accessOf 4096 (replicate 512 0x55)) (fresh 1) ∷ number (accessOf 4097 (replicate 513 0x55)) (fresh 1) ∷ [],
+      number (accessOf 4096 (replicate 512 0x55)) (freshChain 1) ∷ number (accessOf 4097 (replicate 513 0x55)) (freshChain 1) ∷ [],
       0 ∷ 3 ∷ [],
     )
     ∷ []
@@ -95,7 +91,7 @@ font = replicate 128 0
 
 -- the number of a question to driver 1 of one
 abbrev pub asked : Question → ℕ
-asked q = number (ask 1 q) (fresh 1)
+asked q = number (ask 1 q) (freshChain 1)
 
 -- the number of pin levels for driver 1 of a chain
 abbrev pub given : List Device → ℕ → ℕ
@@ -105,17 +101,17 @@ given ds l = number (give 1 (levels l)) ds
 abbrev pub numberRows : List (List ℕ × List ℕ)
 numberRows =
     -- 1: the chain has 0 or more than 16 records
-    (map (λ n. number (ask 1 interrupt) (fresh n)) (0 ∷ 1 ∷ 16 ∷ 17 ∷ []), 1 ∷ 0 ∷ 0 ∷ 1 ∷ [])
+    (map (λ n. number (ask 1 interrupt) (freshChain n)) (0 ∷ 1 ∷ 16 ∷ 17 ∷ []), 1 ∷ 0 ∷ 0 ∷ 1 ∷ [])
     -- 2: driver number not in 1..n
-    ∷ (map (λ j. number (ask j interrupt) (fresh 2)) (0 ∷ 1 ∷ 2 ∷ 3 ∷ []), 2 ∷ 0 ∷ 0 ∷ 2 ∷ [])
+    ∷ (map (λ j. number (ask j interrupt) (freshChain 2)) (0 ∷ 1 ∷ 2 ∷ 3 ∷ []), 2 ∷ 0 ∷ 0 ∷ 2 ∷ [])
     -- 4: sent bytes fewer than the clocks need, 5: room for answer bytes fewer
     ∷ (
-      number (access 16 (4 ∷ []) (0 ∷ 0 ∷ [])) (fresh 1) ∷ number (access 16 (4 ∷ 1 ∷ []) (0 ∷ [])) (fresh 1) ∷ number (access 17 (4 ∷ 1 ∷ []) (0 ∷ 0 ∷ 0 ∷ [])) (fresh 1) ∷ [],
+      number (access 16 (4 ∷ []) (0 ∷ 0 ∷ [])) (freshChain 1) ∷ number (access 16 (4 ∷ 1 ∷ []) (0 ∷ [])) (freshChain 1) ∷ number (access 17 (4 ∷ 1 ∷ []) (0 ∷ 0 ∷ 0 ∷ [])) (freshChain 1) ∷ [],
       4 ∷ 5 ∷ 4 ∷ [],
     )
     -- 6: cathode above 7, pin levels above 31, a digit above 15, alone or in a range, a range's last digit below its first
     ∷ (map (λ d. asked (segments d font font)) (7 ∷ 8 ∷ []), 0 ∷ 6 ∷ [])
-    ∷ (map (given (fresh 1)) (0 ∷ 16 ∷ 31 ∷ 32 ∷ []), 0 ∷ 0 ∷ 0 ∷ 6 ∷ [])
+    ∷ (map (given (freshChain 1)) (0 ∷ 16 ∷ 31 ∷ 32 ∷ []), 0 ∷ 0 ∷ 0 ∷ 6 ∷ [])
     ∷ (map (λ i. asked (brightness i)) (15 ∷ 16 ∷ []), 0 ∷ 6 ∷ [])
     ∷ (map (λ l. asked (plane lent lent 5 l)) (4 ∷ 5 ∷ 15 ∷ 16 ∷ []), 6 ∷ 0 ∷ 0 ∷ 6 ∷ [])
     -- a lent plane not 16 long, or a glyph table not 128 long
@@ -128,10 +124,10 @@ numberRows =
     ∷ (map (λ k. number (ask 1 interrupt) (withBlink powerUp k ∷ [])) (3999999 ∷ 4000000 ∷ []), 0 ∷ 7 ∷ [])
     -- the lowest that applies is given: 1 and 2, 2 and 6, 3 and 4, 4 and 5, 6 and 7
     ∷ (
-      given (fresh 0) 0
-          ∷ number (give 2 (levels 32)) (fresh 1)
-          ∷ number (access 4097 [] []) (fresh 1)
-          ∷ number (access 16 [] []) (fresh 1)
+      given (freshChain 0) 0
+          ∷ number (give 2 (levels 32)) (freshChain 1)
+          ∷ number (access 4097 [] []) (freshChain 1)
+          ∷ number (access 16 [] []) (freshChain 1)
           ∷ given (withPins powerUp 32 ∷ []) 32
           ∷ given (withPins powerUp 32 ∷ []) 31
           ∷ [],
@@ -143,16 +139,16 @@ numberRows =
 abbrev pub answerRows : List (List ℕ × List ℕ)
 answerRows =
     -- "Blink": digits 2 to 4, both included, of the plane now shown, and one digit alone
-    (reply (ask 1 (plane lent other 2 4)) (fresh 1), 2 ∷ 3 ∷ 4 ∷ [])
+    (reply (ask 1 (plane lent other 2 4)) (freshChain 1), 2 ∷ 3 ∷ 4 ∷ [])
     ∷ (reply (ask 1 (plane lent other 2 4)) (withBlink (taken powerUp 0x0409) 2000000 ∷ []), 18 ∷ 19 ∷ 20 ∷ [])
-    ∷ (reply (ask 1 (plane lent other 15 15)) (fresh 1), 15 ∷ [])
+    ∷ (reply (ask 1 (plane lent other 15 15)) (freshChain 1), 15 ∷ [])
     -- refused: an answer that would hold a number holds 0, a segment answer has no pin driven, a returned part is empty
-    ∷ (reply (ask 1 (brightness 16)) (fresh 1) ++ reply (ask 2 shown) (fresh 1) ++ reply (ask 2 interrupt) (fresh 1), 0 ∷ 0 ∷ 0 ∷ [])
-    ∷ (reply (ask 1 (segments 8 font font)) (fresh 1), replicate 19 0)
-    ∷ (reply (ask 1 (plane lent lent 5 4)) (fresh 1), [])
+    ∷ (reply (ask 1 (brightness 16)) (freshChain 1) ++ reply (ask 2 shown) (freshChain 1) ++ reply (ask 2 interrupt) (freshChain 1), 0 ∷ 0 ∷ 0 ∷ [])
+    ∷ (reply (ask 1 (segments 8 font font)) (freshChain 1), replicate 19 0)
+    ∷ (reply (ask 1 (plane lent lent 5 4)) (freshChain 1), [])
     -- nothing changes: neither the room nor the record
-    ∷ (reply (access 16 (0x03 ∷ []) (0xEE ∷ 0xEE ∷ [])) (fresh 1), 0xEE ∷ 0xEE ∷ [])
-    ∷ (stateOf (access 16 (0x03 ∷ 0x03 ∷ []) (0xEE ∷ []) ∷ []) (fresh 1) 1, 0 ∷ 0 ∷ 7 ∷ [])
+    ∷ (reply (access 16 (0x03 ∷ []) (0xEE ∷ 0xEE ∷ [])) (freshChain 1), 0xEE ∷ 0xEE ∷ [])
+    ∷ (stateOf (access 16 (0x03 ∷ 0x03 ∷ []) (0xEE ∷ []) ∷ []) (freshChain 1) 1, 0 ∷ 0 ∷ 7 ∷ [])
     ∷ []
 
 -- what the definitions give is what the document says

@@ -1,6 +1,8 @@
 -- Believed: document 01, "What the double covers": the power-up record. Its values are Table 15's; a register that the table omits is 0.
 -- Assumes nothing.
-use mathlib.Core.List.{_++_}
+use Prim.Native.Nat.{ℕ}
+use mathlib.Core.List.{List, _++_}
+use lib.ListN.{replicate}
 use Rattle.keys.specs.Keys.{released}
 use Rattle.digits.specs.Digits.{eight}
 use Rattle.digits.specs.declared.Planes.{Planes}
@@ -37,3 +39,7 @@ powerUp =
       shift = 0;
       fitted = 255;
     }
+
+-- a chain of n drivers at power-up
+abbrev pub freshChain : ℕ → List Device
+freshChain n = replicate n powerUp

@@ -11,12 +11,12 @@ use Rattle.keys.specs.declared.Group.{Group}
 use Rattle.keys.specs.declared.Keys.{Keys}
 
 -- power-up: key state 0, and Table 15's masks
-abbrev pub none : Group
-none = record { mask = 0; debounced = 0; pressed = 0; held = 0 }
+abbrev pub releasedGroup : Group
+releasedGroup = record { mask = 0; debounced = 0; pressed = 0; held = 0 }
 
 -- all four groups, and no interrupt
 abbrev pub released : Keys
-released = record { a = none; b = none; c = none; d = none; interrupt = 0 }
+released = record { a = releasedGroup; b = releasedGroup; c = releasedGroup; d = releasedGroup; interrupt = 0 }
 
 -- the registers of one group of eight keys
 abbrev pub groupOf : Keys → KeyGroup → Group

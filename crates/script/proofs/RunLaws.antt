@@ -13,7 +13,7 @@ use borrow.Author.Tests.{ne-eqb}
 use Rattle.ground.specs.Choice.{if}
 use Rattle.refusals.specs.Refusals.{bytesFor}
 use Rattle.refusals.proofs.RefusalLaws.{size-served as sizes-fit}
-use Rattle.device.specs.PowerUp.{powerUp}
+use Rattle.device.specs.PowerUp.{powerUp, freshChain}
 use Rattle.device.specs.declared.Device.{Device}
 use Rattle.display.specs.declared.SegmentAnswer.{SegmentAnswer}
 use Rattle.calls.specs.Calls.{Step, Question, Call, access, give, ask}
@@ -24,7 +24,6 @@ use Rattle.row.specs.Row.{fresh, records, numberOn, replyOn, doneOn}
 use Rattle.row.specs.declared.Row.{Row}
 use Rattle.row.specs.declared.Done.{Done}
 use Rattle.script.specs.Lines.{each, hexByte, pinText, answerLine, showLine, refusalLine, lineFor}
-use Rattle.script.specs.Script.{freshChain}
 use Rattle.script.specs.Progress.{Written, Given, Obeyed}
 use Rattle.script.specs.declared.Progress.{Progress}
 use Rattle.script.proofs.RoomLaws.{length-each}

@@ -9,9 +9,10 @@ use lib.Dec.{ltb}
 use lib.ListN.{length, drop}
 use borrow.Author.Tests.{eq-eqb, ne-eqb, lt-ltb, le-ltb, ltb-false}
 use Rattle.ground.specs.Choice.{if}
+use Rattle.device.specs.PowerUp.{freshChain}
 use Rattle.script.specs.Lines.{digit, chainLine, refusalLine}
 use Rattle.script.specs.Format.{byte, kindOf, bodyLength, sizeOf, wellFormed, itemsAfter, items}
-use Rattle.script.specs.Script.{freshChain, runLines, assumedChain, itemsPrinted, longest, printed}
+use Rattle.script.specs.Script.{runLines, assumedChain, itemsPrinted, longest, printed}
 use Rattle.script.specs.Run.{roomFor, ranOf, outAfter}
 use Rattle.script.specs.Progress.{Written, Started}
 use Rattle.script.specs.declared.Ran.{Ran}

@@ -3,19 +3,15 @@
 use Prim.Native.Nat.{ℕ}
 use mathlib.Core.List.{List, [], _∷_, _++_}
 use lib.Dec.{eqb, ltb}
-use lib.ListN.{length, replicate}
+use lib.ListN.{length}
 use Rattle.ground.specs.Choice.{if}
 use Rattle.refusals.specs.Refusals.{chainRefusal}
-use Rattle.device.specs.PowerUp.{powerUp}
+use Rattle.device.specs.PowerUp.{freshChain}
 use Rattle.device.specs.declared.Device.{Device}
 use Rattle.calls.specs.Calls.{Call}
 use Rattle.calls.specs.Outcome.{number, after, reply}
 use Rattle.script.specs.Lines.{chainLine, refusalLine, lineFor}
 use Rattle.script.specs.Format.{Item, chain, call, malformed, items}
-
--- records start at power-up
-abbrev pub freshChain : ℕ → List Device
-freshChain n = replicate n powerUp
 
 -- what a call on a chain prints
 abbrev pub callLine : Call → List Device → List ℕ

@@ -3,8 +3,5 @@ use Rattle.blink.proofs.Part.{part-digits}
 use Rattle.blink.proofs.part_digits.Statement.{statement}
 use Rattle.blink.proofs.part_digits.Tie as tie
 
-returns : tie.Need-returns
-returns c = part-digits
-
 pub part-digits-spec : {M : Type 1} → statement M
-part-digits-spec = tie.close (tie.spec returns)
+part-digits-spec = tie.close (tie.spec (λ c. part-digits))

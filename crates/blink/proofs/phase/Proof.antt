@@ -9,11 +9,5 @@ returns c = rw (c .before .if1 .taken) (search tests)
 returns-2 : tie.Need-returns-2
 returns-2 c = rw (c .before .if1 .taken) (search tests)
 
-returns-3 : tie.Need-returns-3
-returns-3 c = rw (c .before .if1 .left) (search tests)
-
-returns-4 : tie.Need-returns-4
-returns-4 c = rw (c .before .if1 .left) (search tests)
-
 pub phase-spec : {M : Type 1} → statement M
-phase-spec = tie.close (tie.spec returns returns-2 returns-3 returns-4)
+phase-spec = tie.close (tie.spec returns returns-2 (λ c. rw (c .before .if1 .left) (search tests)) (λ c. rw (c .before .if1 .left) (search tests)))

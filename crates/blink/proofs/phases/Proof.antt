@@ -3,8 +3,5 @@ use Rattle.blink.proofs.Half.{phases}
 use Rattle.blink.proofs.phases.Statement.{statement}
 use Rattle.blink.proofs.phases.Tie as tie
 
-returns : tie.Need-returns
-returns c = phases
-
 pub phases-spec : {M : Type 1} → statement M
-phases-spec = tie.close (tie.spec returns)
+phases-spec = tie.close (tie.spec (λ c. phases))

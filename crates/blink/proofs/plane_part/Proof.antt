@@ -10,20 +10,8 @@ use Rattle.blink.proofs.plane_part.Tie as tie
 given : (c : tie.Else1) → Served (c .before .before .before .before .args .p0 .now) (c .before .before .before .before .args .p1 .now) (c .before .before .before .before .args .first) (c .before .before .before .before .args .last)
 given c = served _ _ _ _ (sym (c .before .plane-refusal .ensures) ∙ c .if1 .left)
 
-plane-refusal-requires : tie.Need-plane-refusal-requires
-plane-refusal-requires c κs = search needs
-
-slice-aggregate-result : tie.Need-slice-aggregate-result
-slice-aggregate-result c = search needs
-
 returns : tie.Need-returns
 returns c = rw (← c .before .before .plane-refusal .ensures, ne-eqb _ _ (c .before .if1 .taken))
-
-add-end : tie.Need-add-end
-add-end c = omega (arith, given c .digits)
-
-enum-told : tie.Need-enum-told
-enum-told c = search needs
 
 sub-result : tie.Need-sub-result
 sub-result c = omega (arith, given (c .before .before) .range)
@@ -33,9 +21,6 @@ part-result-start c = omega (arith, given (c .before .before) .range)
 
 part-result-end : tie.Need-part-result-end
 part-result-end c = omega (arith, given (c .before .before) .digits, given (c .before .before) .length0)
-
-enum-told-2 : tie.Need-enum-told-2
-enum-told-2 c = search needs
 
 sub-result-2 : tie.Need-sub-result-2
 sub-result-2 c = omega (arith, given (c .before .before) .range)
@@ -56,15 +41,15 @@ pub plane-part-spec : {M : Type 1} → statement M
 plane-part-spec =
     tie.close
     (tie.spec
-    plane-refusal-requires
-    slice-aggregate-result
+    (λ c κs. search needs)
+    (λ c. search needs)
     returns
-    add-end
-    enum-told
+    (λ c. omega (arith, given c .digits))
+    (λ c. search needs)
     sub-result
     part-result-start
     part-result-end
-    enum-told-2
+    (λ c. search needs)
     sub-result-2
     part-result-start-2
     part-result-end-2

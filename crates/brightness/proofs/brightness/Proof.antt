@@ -4,18 +4,9 @@ use borrow.Author.Needs.{needs}
 use Rattle.brightness.proofs.brightness.Statement.{statement}
 use Rattle.brightness.proofs.brightness.Tie as tie
 
-cast-digit-sixteenths : tie.Need-cast-digit-sixteenths
-cast-digit-sixteenths c = search needs
-
-digit-sixteenths-requires : tie.Need-digit-sixteenths-requires
-digit-sixteenths-requires c κs = search needs
-
 returns : tie.Need-returns
 returns c = simp (c .digit-sixteenths .ensures) (search tests)
 
-returns-2 : tie.Need-returns-2
-returns-2 c = search tests
-
 pub brightness-spec : {M : Type 1} → statement M
 brightness-spec =
-    tie.close (tie.spec cast-digit-sixteenths digit-sixteenths-requires returns returns-2)
+    tie.close (tie.spec (λ c. search needs) (λ c κs. search needs) returns (λ c. search tests))

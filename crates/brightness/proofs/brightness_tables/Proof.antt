@@ -3,8 +3,5 @@ use Rattle.brightness.proofs.Tabled.{tabled}
 use Rattle.brightness.proofs.brightness_tables.Statement.{statement}
 use Rattle.brightness.proofs.brightness_tables.Tie as tie
 
-returns : tie.Need-returns
-returns c = tabled
-
 pub brightness-tables-spec : {M : Type 1} → statement M
-brightness-tables-spec = tie.close (tie.spec returns)
+brightness-tables-spec = tie.close (tie.spec (λ c. tabled))

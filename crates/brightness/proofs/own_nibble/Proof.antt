@@ -4,9 +4,6 @@ use borrow.Author.Needs.{needs}
 use Rattle.brightness.proofs.own_nibble.Statement.{statement}
 use Rattle.brightness.proofs.own_nibble.Tie as tie
 
-intensity-requires : tie.Need-intensity-requires
-intensity-requires c κs = search needs
-
 returns : tie.Need-returns
 returns c = simp (c .before .intensity .ensures) (search tests)
 
@@ -14,4 +11,4 @@ returns-2 : tie.Need-returns-2
 returns-2 c = simp (c .before .intensity .ensures) (search tests)
 
 pub own-nibble-spec : {M : Type 1} → statement M
-own-nibble-spec = tie.close (tie.spec intensity-requires returns returns-2)
+own-nibble-spec = tie.close (tie.spec (λ c κs. search needs) returns returns-2)

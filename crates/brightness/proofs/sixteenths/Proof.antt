@@ -6,9 +6,6 @@ use borrow.Author.Needs.{needs}
 use Rattle.brightness.proofs.sixteenths.Statement.{statement}
 use Rattle.brightness.proofs.sixteenths.Tie as tie
 
-add-result : tie.Need-add-result
-add-result c = search needs
-
 returns : tie.Need-returns
 returns c = rw (lt-ltb (c .before .args .v + 1) 15 (omega arith))
 
@@ -16,4 +13,4 @@ returns-2 : tie.Need-returns-2
 returns-2 c = rw (le-ltb (c .before .args .v + 1) 15 (omega arith))
 
 pub sixteenths-spec : {M : Type 1} → statement M
-sixteenths-spec = tie.close (tie.spec add-result returns returns-2)
+sixteenths-spec = tie.close (tie.spec (λ c. search needs) returns returns-2)

@@ -3,8 +3,5 @@ use Rattle.calls.proofs.Alone.{isolated}
 use Rattle.calls.proofs.isolation.Statement.{statement}
 use Rattle.calls.proofs.isolation.Tie as tie
 
-returns : tie.Need-returns
-returns c = isolated
-
 pub isolation-spec : {M : Type 1} → statement M
-isolation-spec = tie.close (tie.spec returns)
+isolation-spec = tie.close (tie.spec (λ c. isolated))

@@ -3,8 +3,5 @@ use Rattle.calls.proofs.Sound.{all-sound}
 use Rattle.calls.proofs.soundness.Statement.{statement}
 use Rattle.calls.proofs.soundness.Tie as tie
 
-returns : tie.Need-returns
-returns c = all-sound
-
 pub soundness-spec : {M : Type 1} → statement M
-soundness-spec = tie.close (tie.spec returns)
+soundness-spec = tie.close (tie.spec (λ c. all-sound))

@@ -3,8 +3,5 @@ use Rattle.controls.proofs.Wide.{widths}
 use Rattle.controls.proofs.widths.Statement.{statement}
 use Rattle.controls.proofs.widths.Tie as tie
 
-returns : tie.Need-returns
-returns c = widths
-
 pub widths-spec : {M : Type 1} → statement M
-widths-spec = tie.close (tie.spec returns)
+widths-spec = tie.close (tie.spec (λ c. widths))

@@ -3,8 +3,5 @@ use Rattle.device.proofs.Fitted.{fitted-byte}
 use Rattle.device.proofs.fitted_byte.Statement.{statement}
 use Rattle.device.proofs.fitted_byte.Tie as tie
 
-returns : tie.Need-returns
-returns c = fitted-byte
-
 pub fitted-byte-spec : {M : Type 1} → statement M
-fitted-byte-spec = tie.close (tie.spec returns)
+fitted-byte-spec = tie.close (tie.spec (λ c. fitted-byte))

@@ -3,8 +3,5 @@ use Rattle.device.proofs.Shift.{shift-word}
 use Rattle.device.proofs.shift_word.Statement.{statement}
 use Rattle.device.proofs.shift_word.Tie as tie
 
-returns : tie.Need-returns
-returns c = shift-word
-
 pub shift-word-spec : {M : Type 1} → statement M
-shift-word-spec = tie.close (tie.spec returns)
+shift-word-spec = tie.close (tie.spec (λ c. shift-word))

@@ -3,8 +3,5 @@ use Rattle.device.proofs.Sound.{soundness}
 use Rattle.device.proofs.soundness.Statement.{statement}
 use Rattle.device.proofs.soundness.Tie as tie
 
-returns : tie.Need-returns
-returns c = soundness
-
 pub soundness-spec : {M : Type 1} → statement M
-soundness-spec = tie.close (tie.spec returns)
+soundness-spec = tie.close (tie.spec (λ c. soundness))

@@ -3,8 +3,5 @@ use Rattle.device.proofs.PoweredUp.{powered-up}
 use Rattle.device.proofs.table_15.Statement.{statement}
 use Rattle.device.proofs.table_15.Tie as tie
 
-returns : tie.Need-returns
-returns c = powered-up
-
 pub table-15-spec : {M : Type 1} → statement M
-table-15-spec = tie.close (tie.spec returns)
+table-15-spec = tie.close (tie.spec (λ c. powered-up))

@@ -3,8 +3,5 @@ use Rattle.digits.proofs.Each.{digit-by-digit}
 use Rattle.digits.proofs.digit_by_digit.Statement.{statement}
 use Rattle.digits.proofs.digit_by_digit.Tie as tie
 
-returns : tie.Need-returns
-returns c = digit-by-digit
-
 pub digit-by-digit-spec : {M : Type 1} → statement M
-digit-by-digit-spec = tie.close (tie.spec returns)
+digit-by-digit-spec = tie.close (tie.spec (λ c. digit-by-digit))

@@ -4,14 +4,8 @@ use borrow.Author.Needs.{needs}
 use Rattle.digits.proofs.intensity_written.Statement.{statement}
 use Rattle.digits.proofs.intensity_written.Tie as tie
 
-array-write-registers : tie.Need-array-write-registers
-array-write-registers c = search needs
-
-returns : tie.Need-returns
-returns c = search needs
-
 returns-2 : tie.Need-returns-2
 returns-2 c = kept 8 _ _ _ (search needs) (search needs)
 
 pub intensity-written-spec : {M : Type 1} → statement M
-intensity-written-spec = tie.close (tie.spec array-write-registers returns returns-2)
+intensity-written-spec = tie.close (tie.spec (λ c. search needs) (λ c. search needs) returns-2)

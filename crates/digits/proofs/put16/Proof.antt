@@ -4,14 +4,8 @@ use borrow.Author.Needs.{needs}
 use Rattle.digits.proofs.put16.Statement.{statement}
 use Rattle.digits.proofs.put16.Tie as tie
 
-array-write-a : tie.Need-array-write-a
-array-write-a c = search needs
-
-returns : tie.Need-returns
-returns c = search needs
-
 returns-2 : tie.Need-returns-2
 returns-2 c = kept 16 _ _ _ (search needs) (search needs)
 
 pub put16-spec : {M : Type 1} → statement M
-put16-spec = tie.close (tie.spec array-write-a returns returns-2)
+put16-spec = tie.close (tie.spec (λ c. search needs) (λ c. search needs) returns-2)

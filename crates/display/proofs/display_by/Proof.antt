@@ -3,12 +3,6 @@ use borrow.Author.Needs.{needs}
 use Rattle.display.proofs.display_by.Statement.{statement}
 use Rattle.display.proofs.display_by.Tie as tie
 
-bit-at-requires : tie.Need-bit-at-requires
-bit-at-requires c κs = search needs
-
-bit-at-requires-2 : tie.Need-bit-at-requires-2
-bit-at-requires-2 c κs = search needs
-
 returns : tie.Need-returns
 returns c = rw (← c .before .bit-at .ensures, c .if1 .taken)
 
@@ -20,4 +14,4 @@ returns-3 c = rw (← c .before .before .before .bit-at .ensures, ← c .before 
 
 pub display-by-spec : {M : Type 1} → statement M
 display-by-spec =
-    tie.close (tie.spec bit-at-requires bit-at-requires-2 returns returns-2 returns-3)
+    tie.close (tie.spec (λ c κs. search needs) (λ c κs. search needs) returns returns-2 returns-3)

@@ -4,15 +4,9 @@ use borrow.Author.Needs.{needs}
 use Rattle.display.proofs.eight_pins.Statement.{statement}
 use Rattle.display.proofs.eight_pins.Tie as tie
 
-carried-requires : tie.Need-carried-requires
-carried-requires c κs = search needs
-
-nonzero-bytes-requires : tie.Need-nonzero-bytes-requires
-nonzero-bytes-requires c κs = search needs
-
 returns : tie.Need-returns
 unfolding eightPins
 returns c = simp (c .before .before .carried .ensures, c .before .nonzero-bytes .ensures)
 
 pub eight-pins-spec : {M : Type 1} → statement M
-eight-pins-spec = tie.close (tie.spec carried-requires nonzero-bytes-requires returns)
+eight-pins-spec = tie.close (tie.spec (λ c κs. search needs) (λ c κs. search needs) returns)

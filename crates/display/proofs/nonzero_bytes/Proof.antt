@@ -8,8 +8,5 @@ use Rattle.display.proofs.nonzero_bytes.Tie as tie
 add-marked : tie.Need-add-marked
 add-marked c = omega (arith, and-le-r (c .args .word) 0x7F7F7F7F7F7F7F7F)
 
-returns : tie.Need-returns
-returns c = search needs
-
 pub nonzero-bytes-spec : {M : Type 1} → statement M
-nonzero-bytes-spec = tie.close (tie.spec add-marked returns)
+nonzero-bytes-spec = tie.close (tie.spec add-marked (λ c. search needs))

@@ -3,8 +3,5 @@ use Rattle.display.proofs.Wires.{pin-by-pin}
 use Rattle.display.proofs.pin_by_pin.Statement.{statement}
 use Rattle.display.proofs.pin_by_pin.Tie as tie
 
-returns : tie.Need-returns
-returns c = pin-by-pin
-
 pub pin-by-pin-spec : {M : Type 1} → statement M
-pin-by-pin-spec = tie.close (tie.spec returns)
+pin-by-pin-spec = tie.close (tie.spec (λ c. pin-by-pin))

@@ -7,50 +7,11 @@ use borrow.Author.Needs.{needs}
 use Rattle.display.proofs.pins_shown.Statement.{statement}
 use Rattle.display.proofs.pins_shown.Tie as tie
 
-is-dark-requires : tie.Need-is-dark-requires
-is-dark-requires c κs = search needs
-
 returns : tie.Need-returns
 unfolding tabulate
 returns c =
     let a = c .before .before .before .before .args in
     pins-dark (a .device) (a .cathode) (a .font14 .now) (a .font16 .now) (sym (c .before .is-dark .ensures) ∙ c .if1 .taken)
-
-cast-digit : tie.Need-cast-digit
-cast-digit c = search needs
-
-shown-requires : tie.Need-shown-requires
-shown-requires c κs = search needs
-
-digit-requires : tie.Need-digit-requires
-digit-requires c κs = search needs
-
-add-digit : tie.Need-add-digit
-add-digit c = search needs
-
-digit-requires-2 : tie.Need-digit-requires-2
-digit-requires-2 c κs = search needs
-
-display-by-requires : tie.Need-display-by-requires
-display-by-requires c κs = search needs
-
-cast-bit-at : tie.Need-cast-bit-at
-cast-bit-at c = search needs
-
-bit-at-requires : tie.Need-bit-at-requires
-bit-at-requires c κs = search needs
-
-shown-segments-requires : tie.Need-shown-segments-requires
-shown-segments-requires c κs = search needs
-
-packed-row-requires : tie.Need-packed-row-requires
-packed-row-requires c κs = search needs
-
-cast-pins-by : tie.Need-cast-pins-by
-cast-pins-by c = search needs
-
-pins-by-requires : tie.Need-pins-by-requires
-pins-by-requires c κs = search needs
 
 returns-2 : tie.Need-returns-2
 returns-2 c =
@@ -84,18 +45,18 @@ pub pins-shown-spec : {M : Type 1} → statement M
 pins-shown-spec =
     tie.close
     (tie.spec
-    is-dark-requires
+    (λ c κs. search needs)
     returns
-    cast-digit
-    shown-requires
-    digit-requires
-    add-digit
-    digit-requires-2
-    display-by-requires
-    cast-bit-at
-    bit-at-requires
-    shown-segments-requires
-    packed-row-requires
-    cast-pins-by
-    pins-by-requires
+    (λ c. search needs)
+    (λ c κs. search needs)
+    (λ c κs. search needs)
+    (λ c. search needs)
+    (λ c κs. search needs)
+    (λ c κs. search needs)
+    (λ c. search needs)
+    (λ c κs. search needs)
+    (λ c κs. search needs)
+    (λ c κs. search needs)
+    (λ c. search needs)
+    (λ c κs. search needs)
     returns-2)

@@ -7,9 +7,6 @@ use borrow.Author.Needs.{needs}
 use Rattle.display.proofs.segments.Statement.{statement}
 use Rattle.display.proofs.segments.Tie as tie
 
-segments-refusal-requires : tie.Need-segments-refusal-requires
-segments-refusal-requires c κs = search needs
-
 pins-shown-requires : tie.Need-pins-shown-requires
 pins-shown-requires c κs =
     let a = c .before .before .before .before .args in
@@ -23,4 +20,4 @@ unfolding tabulate
 returns-2 c = rw (← c .before .segments-refusal .ensures, ne-eqb _ _ (c .if1 .left))
 
 pub segments-spec : {M : Type 1} → statement M
-segments-spec = tie.close (tie.spec segments-refusal-requires pins-shown-requires returns returns-2)
+segments-spec = tie.close (tie.spec (λ c κs. search needs) pins-shown-requires returns returns-2)

@@ -3,17 +3,5 @@ use Rattle.ground.proofs.Tests.{tests}
 use Rattle.display.proofs.segments_refusal.Statement.{statement}
 use Rattle.display.proofs.segments_refusal.Tie as tie
 
-returns : tie.Need-returns
-returns c = search tests
-
-returns-2 : tie.Need-returns-2
-returns-2 c = search tests
-
-returns-3 : tie.Need-returns-3
-returns-3 c = search tests
-
-returns-4 : tie.Need-returns-4
-returns-4 c = search tests
-
 pub segments-refusal-spec : {M : Type 1} → statement M
-segments-refusal-spec = tie.close (tie.spec returns returns-2 returns-3 returns-4)
+segments-refusal-spec = tie.close (tie.spec (λ c. search tests) (λ c. search tests) (λ c. search tests) (λ c. search tests))

@@ -7,29 +7,11 @@ use borrow.Author.Needs.{needs}
 use Rattle.glyphs.proofs.glyph_segments.Statement.{statement}
 use Rattle.glyphs.proofs.glyph_segments.Tie as tie
 
-cast-k : tie.Need-cast-k
-cast-k c = search needs
-
-cast-point : tie.Need-cast-point
-cast-point c = search needs
-
-mul-point : tie.Need-mul-point
-mul-point c = search needs
-
-mul-result : tie.Need-mul-result
-mul-result c = search needs
-
-shared-slice-read-result : tie.Need-shared-slice-read-result
-shared-slice-read-result c = search needs
-
 cast-result : tie.Need-cast-result
 cast-result c = omega (arith, c .shared-slice-known .given (c .before .before .args .byte % 128))
 
 add-result : tie.Need-add-result
 add-result c = omega (arith, c .shared-slice-known .given (c .before .before .args .byte % 128))
-
-returns : tie.Need-returns
-returns c = search needs
 
 returns-2 : tie.Need-returns-2
 returns-2 c =
@@ -40,12 +22,12 @@ pub glyph-segments-spec : {M : Type 1} → statement M
 glyph-segments-spec =
     tie.close
     (tie.spec
-    cast-k
-    cast-point
-    mul-point
-    mul-result
-    shared-slice-read-result
+    (λ c. search needs)
+    (λ c. search needs)
+    (λ c. search needs)
+    (λ c. search needs)
+    (λ c. search needs)
     cast-result
     add-result
-    returns
+    (λ c. search needs)
     returns-2)

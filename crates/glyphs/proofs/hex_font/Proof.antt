@@ -7,18 +7,6 @@ use borrow.Author.Needs.{needs}
 use Rattle.glyphs.proofs.hex_font.Statement.{statement}
 use Rattle.glyphs.proofs.hex_font.Tie as tie
 
-mul-result : tie.Need-mul-result
-mul-result c = search needs
-
-cast-result : tie.Need-cast-result
-cast-result c = search needs
-
-shr-result : tie.Need-shr-result
-shr-result c = search needs
-
-cast-result-2 : tie.Need-cast-result-2
-cast-result-2 c = search needs
-
 returns : tie.Need-returns
 returns c =
     let start = c .before .before in
@@ -26,4 +14,4 @@ returns c =
     (⊎-elim (λ w. w .1 ∙ rw (lt-ltb _ _ (w .0 .taken))) (λ w. w .1 ∙ rw (le-ltb _ _ (w .0 .left))) (c .before .if1 .came))
 
 pub hex-font-spec : {M : Type 1} → statement M
-hex-font-spec = tie.close (tie.spec mul-result cast-result shr-result cast-result-2 returns)
+hex-font-spec = tie.close (tie.spec (λ c. search needs) (λ c. search needs) (λ c. search needs) (λ c. search needs) returns)

@@ -4,22 +4,13 @@ use borrow.Author.Needs.{needs}
 use Rattle.glyphs.proofs.pair_segments.Statement.{statement}
 use Rattle.glyphs.proofs.pair_segments.Tie as tie
 
-seven-segments-requires : tie.Need-seven-segments-requires
-seven-segments-requires c κs = search needs
-
-seven-segments-requires-2 : tie.Need-seven-segments-requires-2
-seven-segments-requires-2 c κs = search needs
-
 mul-result : tie.Need-mul-result
 mul-result c = omega (arith, c .before .seven-segments .ensures .1)
 
 add-result : tie.Need-add-result
 add-result c = omega (arith, c .before .seven-segments .ensures .1, c .seven-segments2 .ensures .1)
 
-returns : tie.Need-returns
-returns c = search needs
-
 pub pair-segments-spec : {M : Type 1} → statement M
 pair-segments-spec =
     tie.close
-    (tie.spec seven-segments-requires seven-segments-requires-2 mul-result add-result returns)
+    (tie.spec (λ c κs. search needs) (λ c κs. search needs) mul-result add-result (λ c. search needs))

@@ -3,8 +3,5 @@ use Rattle.glyphs.proofs.Segments.{segment-by-segment}
 use Rattle.glyphs.proofs.segment_by_segment.Statement.{statement}
 use Rattle.glyphs.proofs.segment_by_segment.Tie as tie
 
-returns : tie.Need-returns
-returns c = segment-by-segment
-
 pub segment-by-segment-spec : {M : Type 1} → statement M
-segment-by-segment-spec = tie.close (tie.spec returns)
+segment-by-segment-spec = tie.close (tie.spec (λ c. segment-by-segment))

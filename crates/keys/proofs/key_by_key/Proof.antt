@@ -3,8 +3,5 @@ use Rattle.keys.proofs.Keyed.{key-by-key}
 use Rattle.keys.proofs.key_by_key.Statement.{statement}
 use Rattle.keys.proofs.key_by_key.Tie as tie
 
-returns : tie.Need-returns
-returns c = key-by-key
-
 pub key-by-key-spec : {M : Type 1} → statement M
-key-by-key-spec = tie.close (tie.spec returns)
+key-by-key-spec = tie.close (tie.spec (λ c. key-by-key))

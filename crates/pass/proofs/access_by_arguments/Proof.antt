@@ -4,18 +4,9 @@ use Rattle.refusals.proofs.RefusalLaws.{first-last}
 use Rattle.pass.proofs.access_by_arguments.Statement.{statement}
 use Rattle.pass.proofs.access_by_arguments.Tie as tie
 
-chain-refusal-requires : tie.Need-chain-refusal-requires
-chain-refusal-requires c κs = search needs
-
-size-refusal-requires : tie.Need-size-refusal-requires
-size-refusal-requires c κs = search needs
-
-first-of-requires : tie.Need-first-of-requires
-first-of-requires c κs = search needs
-
 returns : tie.Need-returns
 returns c = simp (first-last, c .before .before .chain-refusal .ensures, c .before .size-refusal .ensures, c .first-of .ensures)
 
 pub access-by-arguments-spec : {M : Type 1} → statement M
 access-by-arguments-spec =
-    tie.close (tie.spec chain-refusal-requires size-refusal-requires first-of-requires returns)
+    tie.close (tie.spec (λ c κs. search needs) (λ c κs. search needs) (λ c κs. search needs) returns)

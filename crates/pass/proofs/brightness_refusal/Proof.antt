@@ -3,11 +3,5 @@ use Rattle.ground.proofs.Tests.{tests}
 use Rattle.pass.proofs.brightness_refusal.Statement.{statement}
 use Rattle.pass.proofs.brightness_refusal.Tie as tie
 
-returns : tie.Need-returns
-returns c = search tests
-
-returns-2 : tie.Need-returns-2
-returns-2 c = search tests
-
 pub brightness-refusal-spec : {M : Type 1} → statement M
-brightness-refusal-spec = tie.close (tie.spec returns returns-2)
+brightness-refusal-spec = tie.close (tie.spec (λ c. search tests) (λ c. search tests))

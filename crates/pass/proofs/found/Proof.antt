@@ -4,17 +4,8 @@ use borrow.Author.Needs.{needs}
 use Rattle.pass.proofs.found.Statement.{statement}
 use Rattle.pass.proofs.found.Tie as tie
 
-returns : tie.Need-returns
-returns c = search tests
-
-fit-requires : tie.Need-fit-requires
-fit-requires c κs = search needs
-
-sound-refusal-requires : tie.Need-sound-refusal-requires
-sound-refusal-requires c κs = search needs
-
 returns-2 : tie.Need-returns-2
 returns-2 c = simp (c .before .fit .ensures, c .sound-refusal .ensures) (search tests)
 
 pub found-spec : {M : Type 1} → statement M
-found-spec = tie.close (tie.spec returns fit-requires sound-refusal-requires returns-2)
+found-spec = tie.close (tie.spec (λ c. search tests) (λ c κs. search needs) (λ c κs. search needs) returns-2)

@@ -6,14 +6,8 @@ use borrow.Author.Needs.{needs}
 use Rattle.ports.proofs.free_ports.Statement.{statement}
 use Rattle.ports.proofs.free_ports.Tie as tie
 
-array-read-result : tie.Need-array-read-result
-array-read-result c = search needs
-
-returns : tie.Need-returns
-returns c = search needs
-
 returns-2 : tie.Need-returns-2
 returns-2 c = past 4 (31 ∷ 14 ∷ 12 ∷ 8 ∷ []) (c .before .args .groups) refl (search needs)
 
 pub free-ports-spec : {M : Type 1} → statement M
-free-ports-spec = tie.close (tie.spec array-read-result returns returns-2)
+free-ports-spec = tie.close (tie.spec (λ c. search needs) (λ c. search needs) returns-2)

@@ -4,14 +4,5 @@ use borrow.Author.Needs.{needs}
 use Rattle.ports.proofs.irq_level.Statement.{statement}
 use Rattle.ports.proofs.irq_level.Tie as tie
 
-mul-result : tie.Need-mul-result
-mul-result c = search needs
-
-returns : tie.Need-returns
-returns c = search tests
-
-returns-2 : tie.Need-returns-2
-returns-2 c = search tests
-
 pub irq-level-spec : {M : Type 1} → statement M
-irq-level-spec = tie.close (tie.spec mul-result returns returns-2)
+irq-level-spec = tie.close (tie.spec (λ c. search needs) (λ c. search tests) (λ c. search tests))

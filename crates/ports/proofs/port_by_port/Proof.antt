@@ -3,8 +3,5 @@ use Rattle.ports.proofs.Ported.{port-by-port}
 use Rattle.ports.proofs.port_by_port.Statement.{statement}
 use Rattle.ports.proofs.port_by_port.Tie as tie
 
-returns : tie.Need-returns
-returns c = port-by-port
-
 pub port-by-port-spec : {M : Type 1} → statement M
-port-by-port-spec = tie.close (tie.spec returns)
+port-by-port-spec = tie.close (tie.spec (λ c. port-by-port))

@@ -3,8 +3,5 @@ use Rattle.refusals.proofs.SizeLaws.{sizes}
 use Rattle.refusals.proofs.sizes.Statement.{statement}
 use Rattle.refusals.proofs.sizes.Tie as tie
 
-returns : tie.Need-returns
-returns c = sizes
-
 pub sizes-spec : {M : Type 1} → statement M
-sizes-spec = tie.close (tie.spec returns)
+sizes-spec = tie.close (tie.spec (λ c. sizes))

@@ -3,8 +3,5 @@ use Rattle.registers.proofs.Bare.{written-and-read}
 use Rattle.registers.proofs.written_and_read.Statement.{statement}
 use Rattle.registers.proofs.written_and_read.Tie as tie
 
-returns : tie.Need-returns
-returns c = written-and-read
-
 pub written-and-read-spec : {M : Type 1} → statement M
-written-and-read-spec = tie.close (tie.spec returns)
+written-and-read-spec = tie.close (tie.spec (λ c. written-and-read))

@@ -13,27 +13,6 @@ use Rattle.script.proofs.RunLaws.{to-end, access-fits, answered, refuse
 use Rattle.script.proofs.accessed.Statement.{statement}
 use Rattle.script.proofs.accessed.Tie as tie
 
-word-requires : tie.Need-word-requires
-word-requires c κs = search needs
-
-sub-access : tie.Need-sub-access
-sub-access c = search needs
-
-part-access-start : tie.Need-part-access-start
-part-access-start c = search needs
-
-part-access-end : tie.Need-part-access-end
-part-access-end c = search needs
-
-slice-aggregate-access : tie.Need-slice-aggregate-access
-slice-aggregate-access c = search needs
-
-access-requires : tie.Need-access-requires
-access-requires c κs = search needs
-
-add-count : tie.Need-add-count
-add-count c = search needs
-
 array-share-prefix-room : tie.Need-array-share-prefix-room
 array-share-prefix-room c =
     let d = c .before .before .before .access .ensures in
@@ -57,21 +36,12 @@ answer-line-requires c κs =
     let t = length-take-le (bytesFor (c .before .before .before .before .before .before .before .before .word .result)) (c .before .before .before .before .before .access .last .1 .1 .1 .0) h in
     omega (arith, g, length-drop 2 body, t)
 
-same-length : tie.Need-same-length
-same-length c = search needs
-
 returns : tie.Need-returns
 returns c =
     let a = c .before .before .before .before .before .before .before .before .before .before .before .before .before .before .args in
     let w = c .before .before .before .before .before .before .before .before .before .before .before .word .ensures .0 in
     let d = c .before .before .before .before .before .before .before .before .access .ensures in
     answered (a .row) (word (a .body .now) 0) (drop 2 (a .body .now)) answerRoom _ (a .at) _ _ _ (c .before .before .before .before .before .before .before .before .access .result) _ (rw (w, to-end 2 (a .body .now)) at (d .0)) (c .before .before .before .before .before .if1 .taken) (rw (w, to-end 2 (a .body .now)) at (d .1)) (simp length-drop (omega arith)) (rw w at (c .before .before .answer-line .ensures))
-
-refusal-line-requires : tie.Need-refusal-line-requires
-refusal-line-requires c κs = search needs
-
-same-length-2 : tie.Need-same-length-2
-same-length-2 c = search needs
 
 returns-2 : tie.Need-returns-2
 returns-2 c =
@@ -84,18 +54,18 @@ pub accessed-spec : {M : Type 1} → statement M
 accessed-spec =
     tie.close
     (tie.spec
-    word-requires
-    sub-access
-    part-access-start
-    part-access-end
-    slice-aggregate-access
-    access-requires
-    add-count
+    (λ c κs. search needs)
+    (λ c. search needs)
+    (λ c. search needs)
+    (λ c. search needs)
+    (λ c. search needs)
+    (λ c κs. search needs)
+    (λ c. search needs)
     array-share-prefix-room
     slice-aggregate-answer-line
     answer-line-requires
-    same-length
+    (λ c. search needs)
     returns
-    refusal-line-requires
-    same-length-2
+    (λ c κs. search needs)
+    (λ c. search needs)
     returns-2)

@@ -3,8 +3,5 @@ use Rattle.script.proofs.Limited.{limits}
 use Rattle.script.proofs.limits.Statement.{statement}
 use Rattle.script.proofs.limits.Tie as tie
 
-returns : tie.Need-returns
-returns c = limits
-
 pub limits-spec : {M : Type 1} → statement M
-limits-spec = tie.close (tie.spec returns)
+limits-spec = tie.close (tie.spec (λ c. limits))

@@ -10,18 +10,6 @@ use Rattle.script.proofs.StartLaws.{chain-short, prints-lines, prints-r
 use Rattle.script.proofs.print.Statement.{statement}
 use Rattle.script.proofs.print.Tie as tie
 
-start-of-requires : tie.Need-start-of-requires
-start-of-requires c κs = search needs
-
-chain-line-requires : tie.Need-chain-line-requires
-chain-line-requires c κs = search needs
-
-test-table-requires : tie.Need-test-table-requires
-test-table-requires c κs = search needs
-
-slice-aggregate-run-records : tie.Need-slice-aggregate-run-records
-slice-aggregate-run-records c = search needs
-
 run-records-requires : tie.Need-run-records-requires
 run-records-requires c κs =
     let a = c .before .before .before .before .before .before .before .before .before .before .before .args in
@@ -31,21 +19,12 @@ run-records-requires c κs =
     let l : n < 17 = ltb-true n 17 (and-right (ltb 0 n) (ltb n 17) (c .before .before .before .before .before .before .before .if1 .taken)) in
     (omega arith, w .within, c .before .before .before .before .before .before .before .before .before .before .before .pre .0, c .before .before .test-table .ensures, omega (arith, c .before .before .before .before .before .before .before .before .before .before .before .pre .1, v .place, chain-short n, written-length _ _ _ _ _ v))
 
-same-length : tie.Need-same-length
-same-length c = search needs
-
 returns : tie.Need-returns
 returns c =
     let r = c .before .before .run-records .ensures in
     let w = c .before .before .before .before .before .before .before .before .before .before .before .start-of .ensures in
     let v = c .before .before .before .before .before .before .before .before .chain-line .ensures in
     (rw (prints-lines _ _ w (c .before .before .before .before .before .before .before .before .before .before .if1 .taken)) (both-written _ _ _ _ _ _ _ _ v (r .0)), omega (arith, r .1, written-length _ _ _ _ _ v))
-
-refusal-line-requires : tie.Need-refusal-line-requires
-refusal-line-requires c κs = search needs
-
-same-length-2 : tie.Need-same-length-2
-same-length-2 c = search needs
 
 returns-2 : tie.Need-returns-2
 returns-2 c =
@@ -57,13 +36,13 @@ pub print-spec : {M : Type 1} → statement M
 print-spec =
     tie.close
     (tie.spec
-    start-of-requires
-    chain-line-requires
-    test-table-requires
-    slice-aggregate-run-records
+    (λ c κs. search needs)
+    (λ c κs. search needs)
+    (λ c κs. search needs)
+    (λ c. search needs)
     run-records-requires
-    same-length
+    (λ c. search needs)
     returns
-    refusal-line-requires
-    same-length-2
+    (λ c κs. search needs)
+    (λ c. search needs)
     returns-2)

@@ -6,9 +6,6 @@ use Rattle.script.proofs.StartLaws.{always-served}
 use Rattle.script.proofs.print_all.Statement.{statement}
 use Rattle.script.proofs.print_all.Tie as tie
 
-run-requires : tie.Need-run-requires
-run-requires c κs = search needs
-
 returns : tie.Need-returns
 returns c =
     let a = c .before .before .before .args in
@@ -18,4 +15,4 @@ returns c =
     (w .0, w .1, r .2)
 
 pub print-all-spec : {M : Type 1} → statement M
-print-all-spec = tie.close (tie.spec run-requires returns)
+print-all-spec = tie.close (tie.spec (λ c κs. search needs) returns)

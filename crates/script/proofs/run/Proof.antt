@@ -6,9 +6,6 @@ use Rattle.script.proofs.StartLaws.{too-little, ran, printed-long, prin
 use Rattle.script.proofs.run.Statement.{statement}
 use Rattle.script.proofs.run.Tie as tie
 
-room-for-requires : tie.Need-room-for-requires
-room-for-requires c κs = search needs
-
 returns : tie.Need-returns
 returns c = too-little (c .before .before .before .before .args .script .now) (c .before .before .before .before .args .out .now) (rw (c .before .room-for .ensures) at (c .if1 .taken))
 
@@ -16,9 +13,6 @@ refusal-line-requires : tie.Need-refusal-line-requires
 refusal-line-requires c κs =
     let r = c .before .before .before .room-for .ensures in
     omega (arith, rw (lt-ltb _ _ (c .before .if2 .taken)) at r, c .before .before .if1 .left)
-
-same-length : tie.Need-same-length
-same-length c = search needs
 
 returns-2 : tie.Need-returns-2
 returns-2 c =
@@ -33,9 +27,6 @@ print-requires c κs =
     let r = c .before .before .before .room-for .ensures in
     omega (arith, rw (le-ltb _ _ (c .before .if2 .left)) at r, c .before .before .if1 .left)
 
-same-length-2 : tie.Need-same-length-2
-same-length-2 c = search needs
-
 returns-3 : tie.Need-returns-3
 returns-3 c =
     let a = c .before .before .before .before .before .before .before .before .before .args in
@@ -47,11 +38,11 @@ pub run-spec : {M : Type 1} → statement M
 run-spec =
     tie.close
     (tie.spec
-    room-for-requires
+    (λ c κs. search needs)
     returns
     refusal-line-requires
-    same-length
+    (λ c. search needs)
     returns-2
     print-requires
-    same-length-2
+    (λ c. search needs)
     returns-3)

@@ -6,18 +6,6 @@ use Rattle.script.proofs.StartLaws.{starts-after, starts-at-call, start
 use Rattle.script.proofs.start_of.Statement.{statement}
 use Rattle.script.proofs.start_of.Tie as tie
 
-record-size-requires : tie.Need-record-size-requires
-record-size-requires c κs = search needs
-
-byte-requires : tie.Need-byte-requires
-byte-requires c κs = search needs
-
-byte-requires-2 : tie.Need-byte-requires-2
-byte-requires-2 c κs = search needs
-
-cast-t7 : tie.Need-cast-t7
-cast-t7 c = search needs
-
 returns : tie.Need-returns
 returns c = rw (c .byte2 .ensures) (starts-after _ _ (c .before .before .before .before .record-size .ensures) (c .before .before .before .if1 .taken) (sym (c .before .before .byte .ensures) ∙ c .before .if2 .taken))
 
@@ -31,10 +19,10 @@ pub start-of-spec : {M : Type 1} → statement M
 start-of-spec =
     tie.close
     (tie.spec
-    record-size-requires
-    byte-requires
-    byte-requires-2
-    cast-t7
+    (λ c κs. search needs)
+    (λ c κs. search needs)
+    (λ c κs. search needs)
+    (λ c. search needs)
     returns
     returns-2
     returns-3)

@@ -6,18 +6,6 @@ use Rattle.wire.proofs.ByteLaws.{none-spare, last-cleared}
 use Rattle.wire.proofs.clear_spare.Statement.{statement}
 use Rattle.wire.proofs.clear_spare.Tie as tie
 
-slice-read-kept : tie.Need-slice-read-kept
-slice-read-kept c = search needs
-
-kept-requires : tie.Need-kept-requires
-kept-requires c κs = search needs
-
-slice-write-room : tie.Need-slice-write-room
-slice-write-room c = search needs
-
-same-length : tie.Need-same-length
-same-length c = search needs
-
 returns : tie.Need-returns
 returns c =
     let k = c .before .before .before .slice-known .given in
@@ -32,4 +20,4 @@ returns-2 c =
 pub clear-spare-spec : {M : Type 1} → statement M
 clear-spare-spec =
     tie.close
-    (tie.spec slice-read-kept kept-requires slice-write-room same-length returns returns-2)
+    (tie.spec (λ c. search needs) (λ c κs. search needs) (λ c. search needs) (λ c. search needs) returns returns-2)

@@ -31,16 +31,10 @@ returns c = simp (lt-leb _ _ (c .if1 .taken)) (refl, refl)
 returns-2 : tie.Need-returns-2
 returns-2 c = simp (le-leb _ _ (c .before .if1 .left), lt-leb _ _ (c .if2 .taken)) (refl, refl)
 
-size-refusal-requires : tie.Need-size-refusal-requires
-size-refusal-requires c κs = search needs
-
 returns-3 : tie.Need-returns-3
 returns-3 c =
     let f = rw (c .before .size-refusal .ensures) at (ne-eqb _ 0 (c .if3 .taken)) in
     simp (le-leb _ _ (c .before .before .before .if1 .left), le-leb _ _ (c .before .before .if2 .left), f) (refl, refl)
-
-mul-if4 : tie.Need-mul-if4
-mul-if4 c = search needs
 
 shift-whole-requires : tie.Need-shift-whole-requires
 shift-whole-requires c κs = omega (arith, sizes (c .before .before .before))
@@ -48,20 +42,8 @@ shift-whole-requires c κs = omega (arith, sizes (c .before .before .before))
 shift-part-requires : tie.Need-shift-part-requires
 shift-part-requires c κs = omega (arith, sizes (c .before .before .before))
 
-same-length : tie.Need-same-length
-same-length c = search needs
-
-same-length-2 : tie.Need-same-length-2
-same-length-2 c = search needs
-
 returns-4 : tie.Need-returns-4
 returns-4 c = simp (passed (c .before .before .before .before .before .before .before .before)) (c .before .before .before .before .shift-whole .ensures)
-
-same-length-3 : tie.Need-same-length-3
-same-length-3 c = search needs
-
-same-length-4 : tie.Need-same-length-4
-same-length-4 c = search needs
 
 returns-5 : tie.Need-returns-5
 returns-5 c = simp (passed (c .before .before .before .before .before .before .before .before)) (c .before .before .before .before .shift-part .ensures)
@@ -72,14 +54,14 @@ shift-spec =
     (tie.spec
     returns
     returns-2
-    size-refusal-requires
+    (λ c κs. search needs)
     returns-3
-    mul-if4
+    (λ c. search needs)
     shift-whole-requires
     shift-part-requires
-    same-length
-    same-length-2
+    (λ c. search needs)
+    (λ c. search needs)
     returns-4
-    same-length-3
-    same-length-4
+    (λ c. search needs)
+    (λ c. search needs)
     returns-5)

@@ -8,45 +8,6 @@ use Rattle.wire.proofs.AccessLaws.{line-words, line-answer}
 use Rattle.wire.proofs.shift_part.Statement.{statement}
 use Rattle.wire.proofs.shift_part.Tie as tie
 
-add-count : tie.Need-add-count
-add-count c = search needs
-
-slice-aggregate-write-bytes : tie.Need-slice-aggregate-write-bytes
-slice-aggregate-write-bytes c = search needs
-
-write-bytes-requires : tie.Need-write-bytes-requires
-write-bytes-requires c κs = search needs
-
-slice-aggregate-copy-bytes : tie.Need-slice-aggregate-copy-bytes
-slice-aggregate-copy-bytes c = search needs
-
-mul-copy-bytes : tie.Need-mul-copy-bytes
-mul-copy-bytes c = search needs
-
-copy-bytes-requires : tie.Need-copy-bytes-requires
-copy-bytes-requires c κs = search needs
-
-slice-aggregate-copy-bytes-2 : tie.Need-slice-aggregate-copy-bytes-2
-slice-aggregate-copy-bytes-2 c = search needs
-
-copy-bytes-requires-2 : tie.Need-copy-bytes-requires-2
-copy-bytes-requires-2 c κs = search needs
-
-clear-spare-requires : tie.Need-clear-spare-requires
-clear-spare-requires c κs = search needs
-
-slice-aggregate-write-words : tie.Need-slice-aggregate-write-words
-slice-aggregate-write-words c = search needs
-
-write-words-requires : tie.Need-write-words-requires
-write-words-requires c κs = search needs
-
-same-length : tie.Need-same-length
-same-length c = search needs
-
-same-length-2 : tie.Need-same-length-2
-same-length-2 c = search needs
-
 returns : tie.Need-returns
 returns c =
     let cleared = c .before .before .before .before .before .before .before in
@@ -65,17 +26,17 @@ pub shift-part-spec : {M : Type 1} → statement M
 shift-part-spec =
     tie.close
     (tie.spec
-    add-count
-    slice-aggregate-write-bytes
-    write-bytes-requires
-    slice-aggregate-copy-bytes
-    mul-copy-bytes
-    copy-bytes-requires
-    slice-aggregate-copy-bytes-2
-    copy-bytes-requires-2
-    clear-spare-requires
-    slice-aggregate-write-words
-    write-words-requires
-    same-length
-    same-length-2
+    (λ c. search needs)
+    (λ c. search needs)
+    (λ c κs. search needs)
+    (λ c. search needs)
+    (λ c. search needs)
+    (λ c κs. search needs)
+    (λ c. search needs)
+    (λ c κs. search needs)
+    (λ c κs. search needs)
+    (λ c. search needs)
+    (λ c κs. search needs)
+    (λ c. search needs)
+    (λ c. search needs)
     returns)

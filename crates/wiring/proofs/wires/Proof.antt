@@ -6,21 +6,6 @@ use borrow.Author.Needs.{needs}
 use Rattle.wiring.proofs.wires.Statement.{statement}
 use Rattle.wiring.proofs.wires.Tie as tie
 
-display-index-requires : tie.Need-display-index-requires
-display-index-requires c κs = search needs
-
-mul-entries : tie.Need-mul-entries
-mul-entries c = search needs
-
-mul-entries-2 : tie.Need-mul-entries-2
-mul-entries-2 c = search needs
-
-add-entries : tie.Need-add-entries
-add-entries c = search needs
-
-entries-requires : tie.Need-entries-requires
-entries-requires c κs = search needs
-
 returns : tie.Need-returns
 returns c = c .entries .ensures ∙ wired-row (c .before .before .before .args .display) _ _ (c .before .before .if1 .taken) (c .before .display-index .ensures .0)
 
@@ -32,10 +17,10 @@ pub wires-spec : {M : Type 1} → statement M
 wires-spec =
     tie.close
     (tie.spec
-    display-index-requires
-    mul-entries
-    mul-entries-2
-    add-entries
-    entries-requires
+    (λ c κs. search needs)
+    (λ c. search needs)
+    (λ c. search needs)
+    (λ c. search needs)
+    (λ c κs. search needs)
     returns
     returns-2)

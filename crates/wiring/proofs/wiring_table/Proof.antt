@@ -3,8 +3,5 @@ use Rattle.wiring.proofs.Wired.{wired}
 use Rattle.wiring.proofs.wiring_table.Statement.{statement}
 use Rattle.wiring.proofs.wiring_table.Tie as tie
 
-returns : tie.Need-returns
-returns c = wired
-
 pub wiring-table-spec : {M : Type 1} → statement M
-wiring-table-spec = tie.close (tie.spec returns)
+wiring-table-spec = tie.close (tie.spec (λ c. wired))

@@ -3,8 +3,5 @@ use Rattle.words.proofs.Mapped.{mapped}
 use Rattle.words.proofs.table_6.Statement.{statement}
 use Rattle.words.proofs.table_6.Tie as tie
 
-returns : tie.Need-returns
-returns c = mapped
-
 pub table-6-spec : {M : Type 1} → statement M
-table-6-spec = tie.close (tie.spec returns)
+table-6-spec = tie.close (tie.spec (λ c. mapped))

@@ -11,27 +11,6 @@ use borrow.Author.Needs.{needs}
 use Rattle.keys.proofs.Keys.scanned.Statement.{statement}
 use Rattle.keys.proofs.Keys.scanned.Tie as tie
 
-packed-requires : tie.Need-packed-requires
-packed-requires c κs = search needs
-
-joined-requires : tie.Need-joined-requires
-joined-requires c κs = search needs
-
-configured-requires : tie.Need-configured-requires
-configured-requires c κs = search needs
-
-raises-requires : tie.Need-raises-requires
-raises-requires c κs = search needs
-
-raised-or-requires : tie.Need-raised-or-requires
-raised-or-requires c κs = search needs
-
-scanned-requires : tie.Need-scanned-requires
-scanned-requires c κs = search needs
-
-unpacked-requires : tie.Need-unpacked-requires
-unpacked-requires c κs = search needs
-
 -- what a group holds are bytes, by its type
 bytes : (g : Group) (us : List Val) → shadow (the-field .row .own (the-type .to g) us) → Bytes g
 bytes g us w =
@@ -56,11 +35,11 @@ pub scanned-spec : {M : Type 1} → statement M
 scanned-spec =
     tie.close
     (tie.spec
-    packed-requires
-    joined-requires
-    configured-requires
-    raises-requires
-    raised-or-requires
-    scanned-requires
-    unpacked-requires
+    (λ c κs. search needs)
+    (λ c κs. search needs)
+    (λ c κs. search needs)
+    (λ c κs. search needs)
+    (λ c κs. search needs)
+    (λ c κs. search needs)
+    (λ c κs. search needs)
     returns)

@@ -7,18 +7,6 @@ use Rattle.row.proofs.RowLaws.{access-found, access-refused, access-don
 use Rattle.row.proofs.Row.access.Statement.{statement}
 use Rattle.row.proofs.Row.access.Tie as tie
 
-length-requires : tie.Need-length-requires
-length-requires c κs = search needs
-
-access-by-arguments-requires : tie.Need-access-by-arguments-requires
-access-by-arguments-requires c κs = search needs
-
-found-requires : tie.Need-found-requires
-found-requires c κs = search needs
-
-refused-requires : tie.Need-refused-requires
-refused-requires c κs = search needs
-
 -- the number that was found
 number-is : (c : tie.After-found)
     → let a = c .before .before .before .before .before .args in c .found .result ≡ numberOn (a .self) (access (a .clocks) (a .sent .now) (a .room .now))
@@ -31,21 +19,6 @@ returns c =
     let f = c .before .before in
     let a = f .before .before .before .before .before .args in
     rw (c .refused .ensures) (access-refused (a .self) (a .clocks) (a .sent .now) (a .room .now) _ (number-is f) (c .before .if1 .taken))
-
-shift-words-requires : tie.Need-shift-words-requires
-shift-words-requires c κs = search needs
-
-slice-aggregate-shift : tie.Need-slice-aggregate-shift
-slice-aggregate-shift c = search needs
-
-shift-requires : tie.Need-shift-requires
-shift-requires c κs = search needs
-
-all-taken-requires : tie.Need-all-taken-requires
-all-taken-requires c κs = search needs
-
-same-length : tie.Need-same-length
-same-length c = search needs
 
 returns-2 : tie.Need-returns-2
 returns-2 c =
@@ -60,14 +33,14 @@ pub access-spec : {M : Type 1} → statement M
 access-spec =
     tie.close
     (tie.spec
-    length-requires
-    access-by-arguments-requires
-    found-requires
-    refused-requires
+    (λ c κs. search needs)
+    (λ c κs. search needs)
+    (λ c κs. search needs)
+    (λ c κs. search needs)
     returns
-    shift-words-requires
-    slice-aggregate-shift
-    shift-requires
-    all-taken-requires
-    same-length
+    (λ c κs. search needs)
+    (λ c. search needs)
+    (λ c κs. search needs)
+    (λ c κs. search needs)
+    (λ c. search needs)
     returns-2)

@@ -7,17 +7,8 @@ use Rattle.row.proofs.RowLaws.{number-found}
 use Rattle.row.proofs.Row.found.Statement.{statement}
 use Rattle.row.proofs.Row.found.Tie as tie
 
-length-requires : tie.Need-length-requires
-length-requires c κs = search needs
-
-to-pass-requires : tie.Need-to-pass-requires
-to-pass-requires c κs = search needs
-
 widths-requires : tie.Need-widths-requires
 widths-requires c κs = omega (arith, c .to-pass .ensures, pass-le (c .before .before .args .first) (c .before .length .result))
-
-found-requires : tie.Need-found-requires
-found-requires c κs = search needs
 
 returns : tie.Need-returns
 returns c =
@@ -26,4 +17,4 @@ returns c =
     c .found .ensures ∙ number-found (a .self) _ (p .before .length .ensures .0) (a .first) _ _ (p .to-pass .ensures) (c .before .widths .ensures)
 
 pub found-spec : {M : Type 1} → statement M
-found-spec = tie.close (tie.spec length-requires to-pass-requires widths-requires found-requires returns)
+found-spec = tie.close (tie.spec (λ c κs. search needs) (λ c κs. search needs) widths-requires (λ c κs. search needs) returns)

@@ -7,19 +7,10 @@ use Rattle.row.proofs.Typed.{sixteen, default}
 use Rattle.row.proofs.Row.named.Statement.{statement}
 use Rattle.row.proofs.Row.named.Tie as tie
 
-sub-result : tie.Need-sub-result
-sub-result c = search needs
-
-mul-result : tie.Need-mul-result
-mul-result c = search needs
-
-element-copy-out-result : tie.Need-element-copy-out-result
-element-copy-out-result c = search needs
-
 returns : tie.Need-returns
 returns c =
     let s = c .before in
     default _ powerUp (s .args .t1 .devices) (s .args .driver - 1) (omega (arith, sixteen (s .args .t1) _ (s .good .0)))
 
 pub named-spec : {M : Type 1} → statement M
-named-spec = tie.close (tie.spec sub-result mul-result element-copy-out-result returns)
+named-spec = tie.close (tie.spec (λ c. search needs) (λ c. search needs) (λ c. search needs) returns)

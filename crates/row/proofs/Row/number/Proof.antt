@@ -8,15 +8,6 @@ use Rattle.row.proofs.RowLaws.{call-found, in-row}
 use Rattle.row.proofs.Row.number.Statement.{statement}
 use Rattle.row.proofs.Row.number.Tie as tie
 
-length-requires : tie.Need-length-requires
-length-requires c κs = search needs
-
-by-arguments-requires : tie.Need-by-arguments-requires
-by-arguments-requires c κs = search needs
-
-found-requires : tie.Need-found-requires
-found-requires c κs = search needs
-
 returns : tie.Need-returns
 returns c =
     let s = c .before .before .before in
@@ -26,4 +17,4 @@ returns c =
     (e, in-row (a .self) (sixteen (a .self) _ (s .good .0)) (a .driver) (a .own) _ e)
 
 pub number-spec : {M : Type 1} → statement M
-number-spec = tie.close (tie.spec length-requires by-arguments-requires found-requires returns)
+number-spec = tie.close (tie.spec (λ c κs. search needs) (λ c κs. search needs) (λ c κs. search needs) returns)

@@ -4,12 +4,6 @@ use Rattle.row.proofs.RowLaws.{show-refused, show-done}
 use Rattle.row.proofs.Row.segments.Statement.{statement}
 use Rattle.row.proofs.Row.segments.Tie as tie
 
-segments-refusal-requires : tie.Need-segments-refusal-requires
-segments-refusal-requires c κs = search needs
-
-number-requires : tie.Need-number-requires
-number-requires c κs = search needs
-
 returns : tie.Need-returns
 returns c =
     let n = c .before in
@@ -18,9 +12,6 @@ returns c =
 
 named-requires : tie.Need-named-requires
 named-requires c κs = c .before .number .ensures .1 (c .if1 .left)
-
-segments-requires : tie.Need-segments-requires
-segments-requires c κs = search needs
 
 returns-2 : tie.Need-returns-2
 returns-2 c =
@@ -33,9 +24,9 @@ pub segments-spec : {M : Type 1} → statement M
 segments-spec =
     tie.close
     (tie.spec
-    segments-refusal-requires
-    number-requires
+    (λ c κs. search needs)
+    (λ c κs. search needs)
     returns
     named-requires
-    segments-requires
+    (λ c κs. search needs)
     returns-2)

@@ -25,6 +25,13 @@ pub struct InterruptAnswer {
     pub raised: u8,
 }
 
+// An answer: its number, and the answer mark, 1 where the word last taken was a read.
+#[repr(C)]
+pub struct MarkAnswer {
+    pub number: u8,
+    pub mark: u8,
+}
+
 // No pin is driven.
 pub fn segments_refused(number: u8, cathode: usize, font14: &[u16], font16: &[u16]) -> SegmentAnswer
     ensures { λ r. ⌜ r ≡ record { number = number; pins = tabulate 19 (λ p. pinCode NotDriven) } ⌝ }
@@ -90,6 +97,25 @@ pub fn interrupt(d: Device) -> InterruptAnswer
     InterruptAnswer {
         number: 0,
         raised: keys.interrupt,
+    }
+}
+
+pub fn mark_refused(number: u8) -> MarkAnswer
+    ensures { λ r. ⌜ r ≡ record { number = number; mark = 0 } ⌝ }
+{
+    MarkAnswer {
+        number: number,
+        mark: 0,
+    }
+}
+
+// A driver's answer mark.
+pub fn mark(d: Device) -> MarkAnswer
+    ensures { λ r. ⌜ r ≡ record { number = 0; mark = d .«answer_mark» } ⌝ }
+{
+    MarkAnswer {
+        number: 0,
+        mark: d.answer_mark,
     }
 }
 

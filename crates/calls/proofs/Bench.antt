@@ -1,4 +1,4 @@
--- The bench examples, by one computation over the joined table, and those of numbers and answers.
+-- The bench examples, by one computation over the joined table, and those of numbers, answers and answer marks.
 -- Assumes nothing.
 use mathlib.Core.Path.{refl}
 use Rattle.ground.specs.Lists.{tabulate, Agree}
@@ -9,7 +9,7 @@ use Rattle.display.specs.Examples.{WireExamples}
 use Rattle.calls.specs.CallRefusals.{allSound}
 use Rattle.calls.specs.Outcome.{number, after, reply}
 use Rattle.calls.specs.CallLists.{afterAll, numbers, replies}
-use Rattle.calls.specs.Examples.{rows, numberRows, answerRows, Examples}
+use Rattle.calls.specs.Examples.{rows, numberRows, answerRows, markRows, Examples}
 
 bench : Agree rows
 unfolding tabulate bits value unpack byteAt pack wordAt string words wire answer shifted taken allSound number after reply afterAll numbers replies
@@ -26,5 +26,9 @@ bench-answers : Agree answerRows
 unfolding tabulate taken allSound number after reply afterAll
 bench-answers = refl
 
+bench-marks : Agree markRows
+unfolding bits value unpack byteAt pack wordAt string words wire answer shifted taken tabulate allSound number after reply afterAll
+bench-marks = refl
+
 pub examples : Examples
-examples = record { bench = bench; wires = bench-wires; numbers = bench-numbers; answers = bench-answers }
+examples = record { bench = bench; wires = bench-wires; numbers = bench-numbers; answers = bench-answers; marked = bench-marks }

@@ -3,5 +3,6 @@ pub mod Records
 pub mod Sound
 pub mod Answered
 pub mod Next
+pub mod Marks
 pub mod Alone
 pub mod Bench

@@ -7,7 +7,7 @@ use lib.ListN.{length}
 use Rattle.refusals.specs.Refusals.{chainRefusal, driverRefusal, segmentsRefusal, levelsRefusal, brightnessRefusal, planeRefusal, soundRefusal, firstOf, sizeRefusal}
 use Rattle.device.specs.Sound.{soundOf}
 use Rattle.device.specs.declared.Device.{Device}
-use Rattle.calls.specs.Calls.{Step, scan, levels, clocks, Question, plane, planeShown, segments, brightness, shown, interrupt, Call, access, give, ask}
+use Rattle.calls.specs.Calls.{Step, scan, levels, clocks, Question, plane, planeShown, segments, brightness, shown, interrupt, answerMark, Call, access, give, ask}
 
 -- 2, by the driver that a call names; an access names none
 abbrev pub namedRefusal : ℕ → Call → ℕ
@@ -35,6 +35,7 @@ questionRefusal (segments d font14 font16) = segmentsRefusal d font14 font16
 questionRefusal (brightness i) = brightnessRefusal i
 questionRefusal shown = 0
 questionRefusal interrupt = 0
+questionRefusal answerMark = 0
 
 -- 6, by what a driver is given or asked
 abbrev pub argumentRefusal : Call → ℕ

@@ -26,6 +26,8 @@ pub data Question : Type 0 where
   shown : Question
   -- the interrupt
   interrupt : Question
+  -- the answer mark (document 02, request 1)
+  answerMark : Question
 
 -- a call
 pub data Call : Type 0 where

@@ -1,20 +1,21 @@
 -- Believed: document 01, "Bench examples", 10 and 11 in the table of the display, the others in one, and "Numbers a call
--- may give", 1 to 7, 3 by example 12: what the definitions give beside what the document says.
+-- may give", 1 to 7, 3 by example 12; document 02, request 1: what the definitions give beside what the documents say.
 -- Assumes nothing.
 use Prim.Native.Nat.{ℕ, _+_}
 use mathlib.Core.List.{List, [], _∷_, _++_, map}
 use lib.ListN.{replicate}
 use Rattle.ground.specs.Lists.{tabulate, Agree}
 use Rattle.device.specs.PowerUp.{powerUp, freshChain}
-use Rattle.device.specs.Record.{withPins, withBlink}
+use Rattle.device.specs.Record.{withPins, withBlink, withShift, withMark}
 use Rattle.device.specs.Taken.{taken}
 use Rattle.device.specs.Examples.{rows as driverRows}
 use Rattle.device.specs.declared.Device.{Device}
 use Rattle.display.specs.Examples.{WireExamples, rows as displayRows}
-use Rattle.calls.specs.Calls.{scan, levels, Question, plane, segments, brightness, shown, interrupt, Call, access, give, ask}
+use Rattle.calls.specs.Calls.{scan, levels, Question, plane, segments, brightness, shown, interrupt, answerMark, Call, access, give, ask}
 use Rattle.calls.specs.Served.{recordOf}
 use Rattle.calls.specs.Outcome.{number, reply}
 use Rattle.calls.specs.CallLists.{afterAll, numbers, replies}
+use Rattle.calls.specs.AnswerMark.{marks}
 
 -- an access whose answer bytes have just room enough
 abbrev pub accessOf : ℕ → List ℕ → Call
@@ -122,6 +123,8 @@ numberRows =
     -- 7: some record isn't sound, here of six pin levels, or a blink count of 4,000,000
     ∷ (map (λ l. number (ask 1 interrupt) (powerUp ∷ withPins powerUp l ∷ [])) (31 ∷ 32 ∷ []), 0 ∷ 7 ∷ [])
     ∷ (map (λ k. number (ask 1 interrupt) (withBlink powerUp k ∷ [])) (3999999 ∷ 4000000 ∷ []), 0 ∷ 7 ∷ [])
+    -- or an answer mark above 1
+    ∷ (map (λ m. number (ask 1 interrupt) (withMark powerUp m ∷ [])) (0 ∷ 1 ∷ 2 ∷ []), 0 ∷ 0 ∷ 7 ∷ [])
     -- the lowest that applies is given: 1 and 2, 2 and 6, 3 and 4, 4 and 5, 6 and 7
     ∷ (
       given (freshChain 0) 0
@@ -143,12 +146,37 @@ answerRows =
     ∷ (reply (ask 1 (plane lent other 2 4)) (withBlink (taken powerUp 0x0409) 2000000 ∷ []), 18 ∷ 19 ∷ 20 ∷ [])
     ∷ (reply (ask 1 (plane lent other 15 15)) (freshChain 1), 15 ∷ [])
     -- refused: an answer that would hold a number holds 0, a segment answer has no pin driven, a returned part is empty
-    ∷ (reply (ask 1 (brightness 16)) (freshChain 1) ++ reply (ask 2 shown) (freshChain 1) ++ reply (ask 2 interrupt) (freshChain 1), 0 ∷ 0 ∷ 0 ∷ [])
+    ∷ (reply (ask 1 (brightness 16)) (freshChain 1) ++ reply (ask 2 shown) (freshChain 1) ++ reply (ask 2 interrupt) (freshChain 1) ++ reply (ask 2 answerMark) (withMark powerUp 1 ∷ []), 0 ∷ 0 ∷ 0 ∷ 0 ∷ [])
     ∷ (reply (ask 1 (segments 8 font font)) (freshChain 1), replicate 19 0)
     ∷ (reply (ask 1 (plane lent lent 5 4)) (freshChain 1), [])
     -- nothing changes: neither the room nor the record
     ∷ (reply (access 16 (0x03 ∷ []) (0xEE ∷ 0xEE ∷ [])) (freshChain 1), 0xEE ∷ 0xEE ∷ [])
     ∷ (stateOf (access 16 (0x03 ∷ 0x03 ∷ []) (0xEE ∷ []) ∷ []) (freshChain 1) 1, 0 ∷ 0 ∷ 7 ∷ [])
+    ∷ []
+
+-- the answer mark of driver 1 of one after calls
+abbrev pub markAfter : List Call → List ℕ
+markAfter qs = reply (ask 1 answerMark) (afterAll qs (freshChain 1))
+
+-- document 02, request 1
+abbrev pub markRows : List (List ℕ × List ℕ)
+markRows =
+    -- at power-up it is 0; 0401 clears it, 8400 sets it, 0000 clears it
+    (
+      markAfter [] ++ markAfter (accessOf 16 (0x04 ∷ 0x01 ∷ []) ∷ []) ++ markAfter (accessOf 16 (0x84 ∷ 0x00 ∷ []) ∷ []) ++ markAfter (accessOf 16 (0x84 ∷ 0x00 ∷ []) ∷ accessOf 16 (0x00 ∷ 0x00 ∷ []) ∷ []),
+      0 ∷ 0 ∷ 1 ∷ 0 ∷ [],
+    )
+    -- a read of any address sets it: the no-op's, and an unlisted one
+    ∷ (markAfter (accessOf 16 (0x80 ∷ 0x00 ∷ []) ∷ []) ++ markAfter (accessOf 16 (0xFF ∷ 0xFF ∷ []) ∷ []), 1 ∷ 1 ∷ [])
+    -- a scan leaves it
+    ∷ (markAfter (accessOf 16 (0x84 ∷ 0x00 ∷ []) ∷ give 1 (scan 1 0 0 0) ∷ []), 1 ∷ [])
+    -- at 0 clocks each driver takes the word that stands in its shift register, here 0000 and 8203
+    ∷ (
+      marks (afterAll (accessOf 0 [] ∷ []) (withMark powerUp 1 ∷ withShift powerUp 0x8203 ∷ [])),
+      0 ∷ 1 ∷ [],
+    )
+    -- n=2: 8400 for driver 2, 0401 for driver 1
+    ∷ (marks (afterAll (accessOf 32 (0x84 ∷ 0x00 ∷ 0x04 ∷ 0x01 ∷ []) ∷ []) (freshChain 2)), 0 ∷ 1 ∷ [])
     ∷ []
 
 -- what the definitions give is what the document says
@@ -157,3 +185,4 @@ pub record Examples : Type 0 where
   pub wires : WireExamples
   pub numbers : Agree numberRows
   pub answers : Agree answerRows
+  pub marked : Agree markRows

@@ -5,5 +5,6 @@ pub mod Outcome
 pub mod CallLists
 pub mod Soundness
 pub mod NextAccess
+pub mod AnswerMark
 pub mod Isolation
 pub mod Examples

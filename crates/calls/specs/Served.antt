@@ -17,7 +17,7 @@ use Rattle.device.specs.declared.Device.{Device}
 use Rattle.brightness.specs.Brightness.{brightnessOf}
 use Rattle.display.specs.Pins.{pinCode, segmentsOf}
 use Rattle.display.specs.declared.Pin.the-variants.{NotDriven}
-use Rattle.calls.specs.Calls.{Step, scan, levels, clocks, Question, plane, planeShown, segments, brightness, shown, interrupt, Call, access, give, ask}
+use Rattle.calls.specs.Calls.{Step, scan, levels, clocks, Question, plane, planeShown, segments, brightness, shown, interrupt, answerMark, Call, access, give, ask}
 
 -- driver j's record
 abbrev pub recordOf : List Device → ℕ → Device
@@ -46,7 +46,7 @@ abbrev pub planeCode : Plane → ℕ
 planeCode P0 = 0
 planeCode P1 = 1
 
--- what a driver answers, from its record and what is lent: the part, the 19 pins, the sixteenths, the plane shown, the interrupt
+-- what a driver answers, from its record and what is lent: the part, the 19 pins, the sixteenths, the plane shown, the interrupt, the answer mark
 abbrev pub answerTo : Question → Device → List ℕ
 answerTo (plane p0 p1 first last) x = planePart (shownPlane x) p0 p1 first last
 answerTo (planeShown p0 p1 first last) x = planeCode (shownPlane x) ∷ []
@@ -54,6 +54,7 @@ answerTo (segments d font14 font16) x = segmentsOf x d font14 font16 .pins
 answerTo (brightness i) x = brightnessOf x i ∷ []
 answerTo shown x = planeCode (shownPlane x) ∷ []
 answerTo interrupt x = x .registers .keys .interrupt ∷ []
+answerTo answerMark x = x .«answer_mark» ∷ []
 
 -- a refused answer: the part is empty, no pin is driven, a number is 0
 abbrev pub refusedTo : Question → List ℕ
@@ -63,6 +64,7 @@ refusedTo (segments d font14 font16) = tabulate 19 (λ p. pinCode NotDriven)
 refusedTo (brightness i) = 0 ∷ []
 refusedTo shown = 0 ∷ []
 refusedTo interrupt = 0 ∷ []
+refusedTo answerMark = 0 ∷ []
 
 -- the records that a served call leaves; a question changes none
 abbrev pub served : Call → List Device → List Device

@@ -1,6 +1,7 @@
 // The calls on a chain of MAX6954, and the theorems over whole lists of them.
 ghost use Rattle.calls.specs.Soundness.{Soundness};
 ghost use Rattle.calls.specs.NextAccess.{NextAccess};
+ghost use Rattle.calls.specs.AnswerMark.{AnswerMark};
 ghost use Rattle.calls.specs.Isolation.{Isolation};
 ghost use Rattle.calls.specs.Examples.{Examples};
 
@@ -12,6 +13,11 @@ pub fn soundness()
 // A theorem: a read's answer comes out in the next accepted access of at least 16 clocks for each driver, never in its own.
 pub fn next_access()
     ensures { λ _. ⌜ NextAccess ⌝ }
+{}
+
+// A theorem: after an accepted access each driver's answer mark is D15 of the word that it took; no other call changes a mark.
+pub fn answer_mark()
+    ensures { λ _. ⌜ AnswerMark ⌝ }
 {}
 
 // A theorem, demand 3: after any list of calls each driver is as it would be alone.

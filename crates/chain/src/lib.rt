@@ -2,9 +2,10 @@
 ghost use mathlib.Core.Path.{_≡_};
 ghost use mathlib.Core.List.{[], _∷_};
 ghost use Rattle.device.specs.PowerUp.{powerUp};
-ghost use Rattle.calls.specs.Calls.{access as accessCall, give, ask, scan, levels as pinLevels, clocks as masterClocks, plane, planeShown, segments, brightness, shown, interrupt};
+ghost use Rattle.calls.specs.Calls.{access as accessCall, give, ask, scan, levels as pinLevels, clocks as masterClocks, plane, planeShown, segments, brightness, shown, interrupt, answerMark};
 ghost use Rattle.calls.specs.Outcome.{outcome};
 use answers::InterruptAnswer;
+use answers::MarkAnswer;
 use answers::ShownAnswer;
 use brightness::BrightnessAnswer;
 use device::Device;
@@ -218,4 +219,18 @@ pub extern "C" fn max6954_interrupt(chain: &[Device], driver: usize) -> Interrup
     }
     let at = driver - 1;
     answers::interrupt(chain[at])
+}
+
+// The answer mark of one driver: whether the word that it took last was a read.
+#[no_mangle]
+pub extern "C" fn max6954_answer_mark(chain: &[Device], driver: usize) -> MarkAnswer
+    ensures { λ r. ⌜ outcome (ask driver answerMark) (now (chain .entry)) ≡ record { number = r .number; records = now (chain .entry); back = r .mark ∷ [] } ⌝ }
+{
+    let own = pass::mark_refusal();
+    let number = lent::call_refusal(chain, driver, own);
+    if number != 0 {
+        return answers::mark_refused(number);
+    }
+    let at = driver - 1;
+    answers::mark(chain[at])
 }

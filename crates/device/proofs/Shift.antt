@@ -1,9 +1,9 @@
--- The shift word that a driver is left with by the word it takes.
+-- The shift word and the answer mark that a driver is left with by the word it takes.
 -- Assumes nothing.
 use Prim.Native.Nat.{ℕ, _/_, _%_}
-use mathlib.Core.Bool.{true, false}
-use mathlib.Core.Path.{_≡_}
-use Rattle.ground.specs.Choice.{bit}
+use mathlib.Core.Bool.{Bool, true, false}
+use mathlib.Core.Path.{_≡_, refl}
+use Rattle.ground.specs.Choice.{if, bit}
 use Rattle.words.specs.Addresses.{readAt, writtenAt, wordOf}
 use Rattle.words.specs.declared.Word.the-variants.{Write, Read}
 use Rattle.registers.specs.Registers.{dataOf}
@@ -25,5 +25,13 @@ shift-after-read : (d : Device) (w : ℕ) → bit 15 w ≡ true → taken d w .s
 unfolding taken
 shift-after-read d w e = rw (read-word w e)
 
+taken-mark : (d : Device) (w : ℕ) → taken d w .«answer_mark» ≡ if (bit 15 w) 1 0
+unfolding taken
+taken-mark d w = go (bit 15 w) refl
+  where
+    go : (b : Bool) → bit 15 w ≡ b → taken d w .«answer_mark» ≡ if b 1 0
+    go true e = rw (read-word w e)
+    go false e = rw (write-word w e)
+
 pub shift-word : ShiftWord
-shift-word = record { after-write = shift-after-write; after-read = shift-after-read }
+shift-word = record { after-write = shift-after-write; after-read = shift-after-read; marked = taken-mark }

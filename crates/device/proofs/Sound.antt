@@ -1,46 +1,60 @@
 -- The power-up record is sound, and each step leaves a sound record sound.
 -- Assumes nothing.
 use Prim.Native.Nat.{ℕ, _+_}
-use mathlib.Core.Bool.{true}
+use mathlib.Core.Bool.{Bool, true, _&&_}
 use mathlib.Core.Path.{_≡_, refl}
+use lib.Dec.{ltb}
 use borrow.Author.Tests.{lt-ltb}
 use Rattle.words.specs.Addresses.{wordOf}
 use Rattle.words.specs.declared.Word.{Word}
 use Rattle.words.specs.declared.Word.the-variants.{Write, Read}
-use Rattle.ground.proofs.Truth.{mod-small}
+use Rattle.ground.proofs.Truth.{and-left, and-right, mod-small}
 use Rattle.keys.specs.Keys.{scannedKeys}
 use Rattle.keys.proofs.Sound.{scanned-sound}
 use Rattle.blink.specs.Blink.{advanced}
+use Rattle.registers.specs.Registers.{written, afterRead}
+use Rattle.registers.specs.Sound.{soundRegisters}
+use Rattle.registers.specs.declared.Registers.{Registers}
 use Rattle.registers.proofs.Sound.{parts, keys-sound, pins-sound, blink-sound, write-sound, after-sound}
-use Rattle.device.specs.Record.{withShift}
+use Rattle.device.specs.Record.{withRegisters, withPins, withShift, withMark}
 use Rattle.device.specs.Sound.{soundOf}
 use Rattle.device.specs.Taken.{obeyed, taken}
-use Rattle.device.specs.Steps.{scanned}
+use Rattle.device.specs.Steps.{scanned, clocked}
 use Rattle.device.specs.Soundness.{Soundness}
 use Rattle.device.specs.declared.Device.{Device}
 
+-- sound registers, and a mark of 0 or 1, make a sound record
+sound-with : (d : Device) (x : Registers) (m : ℕ) → soundRegisters x ≡ true → ltb m 2 ≡ true → soundOf (withMark (withRegisters d x) m) ≡ true
+sound-with d x m e h = rw (e, h)
+
+registers-sound : (d : Device) → soundOf d ≡ true → soundRegisters (d .registers) ≡ true
+registers-sound d e = and-left (soundRegisters (d .registers)) (ltb (d .«answer_mark») 2) e
+
+-- a step that changes registers alone
+kept-mark : (d : Device) (x : Registers) → (soundRegisters (d .registers) ≡ true → soundRegisters x ≡ true) → soundOf d ≡ true → soundOf (withRegisters d x) ≡ true
+kept-mark d x f e = sound-with d x (d .«answer_mark») (f (registers-sound d e)) (and-right (soundRegisters (d .registers)) (ltb (d .«answer_mark») 2) e)
+
 obeyed-sound : (d : Device) (w : Word) → soundOf d ≡ true → soundOf (obeyed d w) ≡ true
-obeyed-sound d (Write r v) e = write-sound (d .registers) r v e
-obeyed-sound d (Read r) e = after-sound (d .registers) r e
+obeyed-sound d (Write r v) e = sound-with d (written (d .registers) r v) 0 (write-sound (d .registers) r v (registers-sound d e)) refl
+obeyed-sound d (Read r) e = sound-with d (afterRead (d .registers) r) 1 (after-sound (d .registers) r (registers-sound d e)) refl
 
 taken-sound : (d : Device) (w : ℕ) → soundOf d ≡ true → soundOf (taken d w) ≡ true
 unfolding taken
 taken-sound d w e = obeyed-sound (withShift d w) (wordOf w) e
 
 scan-sound : (x : Device) (a b c d : ℕ) → soundOf x ≡ true → soundOf (scanned x a b c d) ≡ true
-scan-sound x a b c d e =
+scan-sound x a b c d =
     let r = x .registers in
-    keys-sound r (scannedKeys (r .keys) (r .controls .ports) a b c d)
-    (scanned-sound (r .keys) (r .controls .ports) a b c d (parts r e .keys)) e
+    kept-mark x (scanned x a b c d .registers) (λ e. keys-sound r (scannedKeys (r .keys) (r .controls .ports) a b c d) (scanned-sound (r .keys) (r .controls .ports) a b c d (parts r e .keys)) e)
 
 pub soundness : Soundness
 soundness =
     record {
       at-power-up = λ fitted. refl;
-      after-write = λ d r v e. write-sound (d .registers) r v e;
-      after-read = λ d r e. after-sound (d .registers) r e;
+      after-write = λ d r v. kept-mark d (written (d .registers) r v) (write-sound (d .registers) r v);
+      after-read = λ d r. kept-mark d (afterRead (d .registers) r) (after-sound (d .registers) r);
       after-word = taken-sound;
       after-scan = scan-sound;
-      after-pins = λ d levels h e. pins-sound (d .registers) levels (lt-ltb levels 32 h) e;
-      after-clocks = λ d clocks e. blink-sound (d .registers) (advanced (d .registers .blink) clocks) (mod-small (d .registers .blink + clocks) 3999999) e;
+      after-pins = λ d levels h. kept-mark d (withPins d levels .registers) (pins-sound (d .registers) levels (lt-ltb levels 32 h));
+      after-clocks = λ d clocks. kept-mark d (clocked d clocks .registers) (blink-sound (d .registers) (advanced (d .registers .blink) clocks) (mod-small (d .registers .blink + clocks) 3999999));
     }

@@ -8,7 +8,7 @@ use Rattle.device.specs.declared.Device.{Device}
 
 -- all that registers hold
 abbrev pub withRegisters : Device → Registers → Device
-withRegisters d x = record { registers = x; shift = d .shift; fitted = d .fitted }
+withRegisters d x = record { registers = x; shift = d .shift; fitted = d .fitted; «answer_mark» = d .«answer_mark» }
 
 -- the key state
 abbrev pub withKeys : Device → Keys → Device
@@ -24,8 +24,12 @@ withBlink d n = withRegisters d (blinkReplaced (d .registers) n)
 
 -- the 16-bit shift word
 abbrev pub withShift : Device → ℕ → Device
-withShift d w = record { registers = d .registers; shift = w; fitted = d .fitted }
+withShift d w = record { registers = d .registers; shift = w; fitted = d .fitted; «answer_mark» = d .«answer_mark» }
 
 -- the fitted byte
 abbrev pub withFitted : Device → ℕ → Device
-withFitted d n = record { registers = d .registers; shift = d .shift; fitted = n }
+withFitted d n = record { registers = d .registers; shift = d .shift; fitted = n; «answer_mark» = d .«answer_mark» }
+
+-- the answer mark
+abbrev pub withMark : Device → ℕ → Device
+withMark d m = record { registers = d .registers; shift = d .shift; fitted = d .fitted; «answer_mark» = m }

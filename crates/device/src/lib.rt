@@ -1,9 +1,10 @@
 // One MAX6954 by value: its record, the word that it takes, and the other steps that change it.
 ghost use mathlib.Core.Path.{_≡_};
-ghost use Rattle.device.specs.Record.{withRegisters, withPins, withShift, withFitted};
+ghost use Rattle.words.specs.declared.Word.the-variants.{Write, Read};
+ghost use Rattle.device.specs.Record.{withRegisters, withPins, withShift, withFitted, withMark};
 ghost use Rattle.device.specs.PowerUp.{powerUp};
 ghost use Rattle.device.specs.Sound.{soundOf};
-ghost use Rattle.device.specs.Taken.{answerWord, answered, taken};
+ghost use Rattle.device.specs.Taken.{answerWord, obeyed, taken};
 ghost use Rattle.device.specs.Steps.{scanned, clocked, shownPlane};
 ghost use Rattle.device.specs.Soundness.{Soundness};
 ghost use Rattle.device.specs.ShiftWord.{ShiftWord};
@@ -26,6 +27,8 @@ pub struct Device {
     pub shift: u16,
     // Bit d: cathode d has a pair of 7-segment digits where its digit type is 0.
     pub fitted: u8,
+    // 1 where the word last taken was a read, else 0.
+    pub answer_mark: u8,
 }
 
 impl Device {
@@ -58,6 +61,7 @@ impl Device {
         },
         shift: 0,
         fitted: 255,
+        answer_mark: 0,
     };
 
     pub fn new() -> Device
@@ -95,15 +99,32 @@ impl Device {
         self
     }
 
+    fn with_mark(mut self, mark: u8) -> Device
+        ensures { λ r. ⌜ r ≡ withMark self mark ⌝ }
+    {
+        self.answer_mark = mark;
+        self
+    }
+
+    // A write word obeyed.
+    fn written(self, register: Register, v: u8) -> Device
+        ensures { λ r. ⌜ r ≡ obeyed self (Write register v) ⌝ }
+    {
+        let old = self.registers;
+        let after = self.with_registers(old.written(register, v));
+        after.with_mark(0)
+    }
+
     // A read word obeyed: the register's data is taken before a debounced register is cleared.
     fn answered(self, register: Register) -> Device
-        ensures { λ r. ⌜ r ≡ answered self register ⌝ }
+        ensures { λ r. ⌜ r ≡ obeyed self (Read register) ⌝ }
     {
         let old = self.registers;
         let new = old.read(register);
         let v = old.read_data(register);
         let after = self.with_registers(new);
-        after.with_shift(answer_word(self.shift, v))
+        let answer = after.with_shift(answer_word(self.shift, v));
+        answer.with_mark(1)
     }
 
     // A word taken: it becomes the shift word, and is obeyed.
@@ -111,9 +132,8 @@ impl Device {
         ensures { λ r. ⌜ r ≡ taken self word ⌝ }
     {
         let loaded = self.with_shift(word);
-        let old = loaded.registers;
         match words::decode(word) {
-            Word::Write(register, v) => loaded.with_registers(old.written(register, v)),
+            Word::Write(register, v) => loaded.written(register, v),
             Word::Read(register) => loaded.answered(register),
         }
     }
@@ -164,7 +184,12 @@ impl Device {
         let controls = (c.global < 16) & (c.limit < 8) & (c.gpio < 32) & (c.test < 2);
         let f = x.config;
         let config = (f.i < 2) & (f.e < 2) & (f.b < 2) & (f.s < 2);
-        controls & config & (x.keys.interrupt < 2) & (x.pins < 32) & (x.blink < 4000000)
+        let registers = controls
+            & config
+            & (x.keys.interrupt < 2)
+            & (x.pins < 32)
+            & (x.blink < 4000000);
+        registers & (self.answer_mark < 2)
     }
 }
 
@@ -180,7 +205,7 @@ pub fn soundness()
     ensures { λ _. ⌜ Soundness ⌝ }
 {}
 
-// A theorem: the shift word after a word is taken.
+// A theorem: the shift word and the answer mark after a word is taken.
 pub fn shift_word()
     ensures { λ _. ⌜ ShiftWord ⌝ }
 {}

@@ -1,4 +1,4 @@
--- Auxiliary: what a word with an address of 0x20 or above changes where it lies, a digit's byte in each plane and the shift word. `taken` is what is believed.
+-- Auxiliary: what a word with an address of 0x20 or above changes where it lies, a digit's byte in each plane, the shift word and the answer mark. `taken` is what is believed.
 -- Assumes nothing.
 use Prim.Native.Nat.{ℕ, _+_, _*_, _/_, _%_}
 use mathlib.Core.Bool.{Bool, _||_}
@@ -33,6 +33,10 @@ digitRead w p0 p1 = if (eqb (w / 4096) 12) p1 (if (eqb (w / 4096) 10) p0 0)
 abbrev pub newShift : ℕ → ℕ → ℕ → ℕ
 newShift w p0 p1 = if (ltb (w / 4096) 8) w (w / 256 * 256 + digitRead w p0 p1)
 
+-- the answer mark after it
+abbrev pub newMark : ℕ → ℕ
+newMark w = if (ltb (w / 4096) 8) 0 1
+
 -- the planes after it
 abbrev pub newPlanes : Planes → ℕ → Planes
 newPlanes x w =
@@ -48,4 +52,5 @@ highTaken d w =
       registers = withPlanes (d .registers) (newPlanes (d .registers .planes) w);
       shift = newShift w (getD (d .registers .planes .p0) (digitOf w) 0) (getD (d .registers .planes .p1) (digitOf w) 0);
       fitted = d .fitted;
+      «answer_mark» = newMark w;
     }

@@ -1,6 +1,6 @@
-// What a word with an address of 0x20 or above changes, by value: a digit's byte in each plane, and the shift word.
+// What a word with an address of 0x20 or above changes, by value: a digit's byte in each plane, the shift word and the answer mark.
 ghost use mathlib.Core.Path.{_≡_};
-ghost use Rattle.high_words.specs.HighWords.{isHigh, digitOf, newP0, newP1, digitRead, newShift};
+ghost use Rattle.high_words.specs.HighWords.{isHigh, digitOf, newP0, newP1, digitRead, newShift, newMark};
 
 // A word's address is 0x20 or above.
 pub fn is_high(word: u16) -> bool
@@ -58,4 +58,11 @@ pub fn new_shift(word: u16, p0: u8, p1: u8) -> u16
     } else {
         word / 256 * 256 + data as u16
     }
+}
+
+// The answer mark after the word.
+pub fn new_mark(word: u16) -> u8
+    ensures { λ r. ⌜ r ≡ newMark word ⌝ }
+{
+    if word / 4096 < 8 { 0 } else { 1 }
 }

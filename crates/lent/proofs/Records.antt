@@ -73,21 +73,22 @@ planes-of d is =
     let q = LL.owed Q.the-type Q′.the-laws (d .registers .planes) _ (r .1 .1 .1 .1 .0) in
     (q .0, q .1 .0)
 
--- a record with a byte of each plane and the shift word replaced
-abbrev pub stored : Device → ℕ → ℕ → ℕ → ℕ → Device
-stored d k y z s =
+-- a record with a byte of each plane, the shift word and the answer mark replaced
+abbrev pub stored : Device → ℕ → ℕ → ℕ → ℕ → ℕ → Device
+stored d k y z s m =
     record {
       registers = withPlanes (d .registers) (record { p0 = set (d .registers .planes .p0) k y; p1 = set (d .registers .planes .p1) k z });
       shift = s;
       fitted = d .fitted;
+      «answer_mark» = m;
     }
 
-pub is-stored : (d : Device) (k y z s : ℕ) → y < 2 ^ 8 → z < 2 ^ 8 → s < 2 ^ 16 → Is (device .row) d (device .val d ∷ []) → Is (device .row) (stored d k y z s) (device .val (stored d k y z s) ∷ [])
-is-stored d k y z s hy hz hs is =
-    let e : Device = stored d k y z s in
+pub is-stored : (d : Device) (k y z s m : ℕ) → y < 2 ^ 8 → z < 2 ^ 8 → s < 2 ^ 16 → m < 2 ^ 8 → Is (device .row) d (device .val d ∷ []) → Is (device .row) (stored d k y z s m) (device .val (stored d k y z s m) ∷ [])
+is-stored d k y z s m hy hz hs hm is =
+    let e : Device = stored d k y z s m in
     let a = LL.owed D.the-type D′.the-laws d (device .val d ∷ []) is in
     let r = LL.owed G.the-type G′.the-laws (d .registers) _ (a .0) in
     let ps = planes-of d is in
     let q = LL.owes Q.the-type Q′.the-laws (e .registers .planes) (is-set 16 (d .registers .planes .p0) _ (ps .0) k y hy, (is-set 16 (d .registers .planes .p1) _ (ps .1) k z hz, tt)) in
     let g = LL.owes G.the-type G′.the-laws (e .registers) (r .0, (r .1 .0, (r .1 .1 .0, (r .1 .1 .1 .0, (q, r .1 .1 .1 .1 .1))))) in
-    LL.owes D.the-type D′.the-laws e (g, ((refl, hs), a .1 .1))
+    LL.owes D.the-type D′.the-laws e (g, ((refl, hs), (a .1 .1 .0, ((refl, hm), tt))))

@@ -39,7 +39,7 @@ pub fn shift_words(chain: &[Device], first: u8, words: &mut [u16]) -> u8
     pass::found(first, s)
 }
 
-// Every driver takes its word: where its address is 0x20 or above two bytes and the shift word are stored, else the whole record.
+// Every driver takes its word: where its address is 0x20 or above two bytes, the shift word and the answer mark are stored, else the whole record.
 pub fn take_words(chain: &mut [Device], words: &[u16])
     ensures { λ _. ⌜ now (chain .exit) ≡ takenTo (now (chain .entry)) (now (words .entry)) (inRoom (length (now (chain .entry))) (length (now (words .entry)))) ⌝ }
 {
@@ -54,6 +54,7 @@ pub fn take_words(chain: &mut [Device], words: &[u16])
             chain[i].registers.planes.p0[at] = high_words::new_p0(w, p0);
             chain[i].registers.planes.p1[at] = high_words::new_p1(w, p1);
             chain[i].shift = high_words::new_shift(w, p0, p1);
+            chain[i].answer_mark = high_words::new_mark(w);
         } else {
             chain[i] = chain[i].taken(w);
         }

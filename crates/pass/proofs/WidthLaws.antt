@@ -132,7 +132,8 @@ module _ (w : Widths) (d : Device) (y : Bytes d) where
       let config = cross (cross (cross (first-byte 48 1 (f .i) i-is) (first-byte 56 1 (f .e) e-is)) (last-byte 0 1 (f .b) b-is)) (last-byte 8 1 (f .s) s-is) in
       let keys = or-small 1 (w .interrupt) (d .registers .keys .interrupt) in
       let pins = or-small 5 (w .pins) (d .registers .pins) in
-      cross (cross (cross (cross controls config) keys) pins) (greater-small 4000000 (w .blink) (d .registers .blink)) .same
+      let blink = greater-small 4000000 (w .blink) (d .registers .blink) in
+      cross (cross (cross (cross (cross controls config) keys) pins) blink) (or-small 1 (w .mark) (d .«answer_mark»)) .same
 
 -- ---- all records
 fit-of : (w : Widths) (ds : List Device) → AllBytes ds → fit (widthsOf w ds) ≡ fit w && allSound ds

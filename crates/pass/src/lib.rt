@@ -3,7 +3,7 @@ ghost use mathlib.Core.Path.{_≡_};
 ghost use lib.Dec.{eqb};
 ghost use Rattle.ground.specs.Choice.{if};
 ghost use Rattle.refusals.specs.Refusals.{chainRefusal, driverRefusal, soundRefusal};
-ghost use Rattle.calls.specs.Calls.{scan, levels as pinLevels, clocks as masterClocks, plane, brightness, shown, interrupt};
+ghost use Rattle.calls.specs.Calls.{scan, levels as pinLevels, clocks as masterClocks, plane, brightness, shown, interrupt, answerMark};
 ghost use Rattle.calls.specs.CallRefusals.{stepRefusal, questionRefusal};
 ghost use Rattle.pass.specs.Widths.{eightBytes, twoBytes, greater, noWidths, widthsWith, fit};
 ghost use Rattle.pass.specs.Found.{byArguments, accessByArguments, toPass, toPassIn, inRoom, found};
@@ -19,6 +19,7 @@ pub struct Widths {
     // The greatest blink count.
     pub blink: u32,
     pub interrupt: u8,
+    pub mark: u8,
 }
 
 // Eight bytes in a row, the first lowest.
@@ -60,6 +61,7 @@ impl Widths {
             pins: 0,
             blink: 0,
             interrupt: 0,
+            mark: 0,
         }
     }
 
@@ -87,6 +89,7 @@ impl Widths {
             pins: self.pins | x.pins,
             blink: greater(self.blink, x.blink),
             interrupt: self.interrupt | k.interrupt,
+            mark: self.mark | d.answer_mark,
         }
     }
 
@@ -102,7 +105,12 @@ impl Widths {
             & (self.first / 72057594037927936 % 256 < 2)
             & (self.last / 1 % 256 < 2)
             & (self.last / 256 % 256 < 2);
-        controls & config & (self.interrupt < 2) & (self.pins < 32) & (self.blink < 4000000)
+        let registers = controls
+            & config
+            & (self.interrupt < 2)
+            & (self.pins < 32)
+            & (self.blink < 4000000);
+        registers & (self.mark < 2)
     }
 }
 
@@ -225,6 +233,13 @@ pub fn shown_refusal() -> u8
 // And for its interrupt.
 pub fn interrupt_refusal() -> u8
     ensures { λ r. ⌜ r ≡ questionRefusal interrupt ⌝ }
+{
+    0
+}
+
+// And for its answer mark.
+pub fn mark_refusal() -> u8
+    ensures { λ r. ⌜ r ≡ questionRefusal answerMark ⌝ }
 {
     0
 }

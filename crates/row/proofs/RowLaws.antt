@@ -3,7 +3,7 @@
 --     number-found, call-found, access-found       the number
 --     in-row                                       a driver that is named is one of the sixteen
 --     give-refused, give-done                      a call that gives a driver something
---     show-refused, show-done                      what a cathode shows
+--     show-refused, show-done                      what a cathode shows, and the answer mark
 --     access-refused, access-done                  an access
 -- Assumes nothing.
 use Prim.Native.Nat.{ℕ, zero, suc, _-_, _≤_, _<_}
@@ -25,17 +25,16 @@ use Rattle.device.specs.PowerUp.{powerUp}
 use Rattle.device.specs.Taken.{taken}
 use Rattle.device.specs.declared.Device.{Device}
 use Rattle.display.specs.Pins.{segmentsOf}
-use Rattle.display.specs.declared.SegmentAnswer.{SegmentAnswer}
-use Rattle.calls.specs.Calls.{Step, Call, access, give, ask, segments}
+use Rattle.calls.specs.Calls.{Step, Question, Call, access, give, ask, segments}
 use Rattle.calls.specs.CallRefusals.{stepRefusal, questionRefusal, allSound}
-use Rattle.calls.specs.Served.{stepped, refusedBack}
+use Rattle.calls.specs.Served.{recordOf, stepped, refusedBack}
 use Rattle.calls.specs.Outcome.{number, after, reply, Outcome}
 use Rattle.calls.proofs.Accepted.{after-zero, reply-zero}
 use Rattle.pass.specs.Found.{byArguments, accessByArguments, toPass, found, callRefusal}
 use Rattle.pass.specs.OneByOne.{wordsTo, takenTo}
-use Rattle.pass.proofs.FoundLaws.{in-range, own-zero}
+use Rattle.pass.proofs.FoundLaws.{in-range}
 use Rattle.pass.proofs.AccessLaws.{access-number, access-whole}
-use Rattle.row.specs.Row.{records, numberOn, replyOn, doneOn}
+use Rattle.row.specs.Row.{records, numberOn, replyOn, doneOn, shownOn}
 use Rattle.row.specs.declared.Row.{Row}
 
 -- ---- the first n of a list, and the others
@@ -120,30 +119,28 @@ module _ (r : Row) (j : ℕ) (st : Step) (own k : ℕ) (o : own ≡ stepRefusal 
       let h = in-range (records r) j own (sym e ∙ z) in
       rw (after-zero (give j st) (records r) t, t, part-set (r .n) (r .devices) (j - 1) (stepped st) powerUp (omega (arith, h)))
 
--- ---- what a cathode shows
+-- ---- what a cathode shows, and the answer mark
 module _ (r : Row) (j d : ℕ) (font14 font16 : List ℕ) (own k : ℕ) (o : own ≡ questionRefusal (segments d font14 font16)) (e : k ≡ callRefusal (records r) j own) where
-  abbrev q : Call
-  q = ask j (segments d font14 font16)
+  abbrev q : Question
+  q = segments d font14 font16
 
-  abbrev answer : SegmentAnswer
-  answer = record { number = numberOn r q; pins = replyOn r q }
+  abbrev asked : Device
+  asked = getD (r .devices) (j - 1) powerUp
 
-  ask-number : k ≡ numberOn r q
+  ask-number : k ≡ numberOn r (ask j q)
   unfolding number
   ask-number = e ∙ rw o
 
-  pub show-refused : (k ≡ 0 → ⊥) → record { number = k; pins = replicate 19 0 } ≡ answer
+  pub show-refused : (k ≡ 0 → ⊥) → record { number = k; pins = replicate 19 0; mark = 0 } ≡ shownOn r j q
   unfolding tabulate
-  show-refused z = rw (← ask-number, ← refused-reply r q k ask-number z)
+  show-refused z = rw (← ask-number, ← refused-reply r (ask j q) k ask-number z, ne-eqb k 0 z)
 
-  pub show-done : k ≡ 0 → segmentsOf (getD (r .devices) (j - 1) powerUp) d font14 font16 ≡ answer
+  pub show-done : k ≡ 0 → record { number = 0; pins = segmentsOf asked d font14 font16 .pins; mark = asked .«answer_mark» } ≡ shownOn r j q
   show-done z =
-      let t : numberOn r q ≡ 0 = sym ask-number ∙ z in
+      let t : numberOn r (ask j q) ≡ 0 = sym ask-number ∙ z in
       let h = in-range (records r) j own (sym e ∙ z) in
-      let zero-own : questionRefusal (segments d font14 font16) ≡ 0 = sym o ∙ own-zero (records r) j own (sym e ∙ z) in
-      let pins : replyOn r q ≡ segmentsOf (getD (r .devices) (j - 1) powerUp) d font14 font16 .pins =
-      reply-zero q (records r) t ∙ ap (λ x. segmentsOf x d font14 font16 .pins) (sym (part-get (r .n) (r .devices) (j - 1) powerUp (omega (arith, h)))) in
-      rw (pins, t) (ap (λ n. record { number = n; pins = segmentsOf (getD (r .devices) (j - 1) powerUp) d font14 font16 .pins }) zero-own)
+      let same : asked ≡ recordOf (records r) j = part-get (r .n) (r .devices) (j - 1) powerUp (omega (arith, h)) in
+      rw (reply-zero (ask j q) (records r) t, t, same)
 
 -- ---- an access
 module _ (r : Row) (c : ℕ) (sent room : List ℕ) (k : ℕ) (e : k ≡ numberOn r (access c sent room)) where

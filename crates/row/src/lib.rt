@@ -3,14 +3,13 @@ ghost use Prim.Native.Nat.{_-_, _≤_};
 ghost use mathlib.Core.Path.{_≡_};
 ghost use lib.ListN.{length, getD, set, take, replicate};
 ghost use Rattle.device.specs.PowerUp.{powerUp};
-ghost use Rattle.calls.specs.Calls.{access as accessCall, give, ask, scan as scanStep, levels as levelsStep, clocks as clocksStep, segments as segmentsQuestion};
+ghost use Rattle.calls.specs.Calls.{access as accessCall, give, scan as scanStep, levels as levelsStep, clocks as clocksStep, segments as segmentsQuestion};
 ghost use Rattle.calls.specs.CallRefusals.{allSound};
 ghost use Rattle.pass.specs.Widths.{fit};
 ghost use Rattle.pass.specs.Found.{found, callRefusal};
 ghost use Rattle.pass.specs.OneByOne.{wordsTo, takenTo};
-ghost use Rattle.row.specs.Row.{fresh, records, numberOn, replyOn, doneOn};
+ghost use Rattle.row.specs.Row.{fresh, records, replyOn, doneOn, shownOn};
 use device::Device;
-use display::SegmentAnswer;
 use pass::Widths;
 
 // A chain of n drivers: the first n of sixteen records. A length above 16 counts as 16.
@@ -23,6 +22,13 @@ pub struct Row {
 pub struct Done {
     pub number: u8,
     pub row: Row,
+}
+
+// What a show finds: its number, the pins of a cathode, and the answer mark of its driver.
+pub struct Shown {
+    pub number: u8,
+    pub pins: [u8; 19],
+    pub mark: u8,
 }
 
 impl Row {
@@ -190,25 +196,26 @@ impl Row {
         }
     }
 
-    // What a cathode of one driver shows under two glyph tables.
-    pub fn segments(
-        self,
-        driver: usize,
-        cathode: usize,
-        font14: &[u16],
-        font16: &[u16],
-    ) -> SegmentAnswer
-        ensures { λ r. ⌜ r ≡ record { number = numberOn self (ask driver (segmentsQuestion cathode (now (font14 .entry)) (now (font16 .entry)))); pins = replyOn self (ask driver (segmentsQuestion cathode (now (font14 .entry)) (now (font16 .entry)))) } ⌝ }
+    // What a cathode of one driver shows under two glyph tables, and the driver's answer mark.
+    pub fn show(self, driver: usize, cathode: usize, font14: &[u16], font16: &[u16]) -> Shown
+        ensures { λ r. ⌜ r ≡ shownOn self driver (segmentsQuestion cathode (now (font14 .entry)) (now (font16 .entry))) ⌝ }
     {
         let own = display::segments_refusal(cathode, font14, font16);
         let number = self.number(driver, own);
         if number != 0 {
-            return SegmentAnswer {
+            return Shown {
                 number: number,
                 pins: [0; 19],
+                mark: 0,
             };
         }
         let asked = self.named(driver);
-        display::segments(asked, cathode, font14, font16)
+        let answer = display::segments(asked, cathode, font14, font16);
+        let pins = answer.pins;
+        Shown {
+            number: 0,
+            pins: pins,
+            mark: asked.answer_mark,
+        }
     }
 }

@@ -10,7 +10,7 @@ use Rattle.calls.specs.Outcome.{number, after, reply}
 use Rattle.script.specs.Lines.{each}
 use Rattle.script.specs.Format.{itemsAfter}
 use Rattle.script.specs.Script.{runLines, printed}
-use Rattle.script.specs.Examples.{rows, lineRows, scanRows, Printed, Examples}
+use Rattle.script.specs.Examples.{rows, lineRows, scanRows, markRows, Printed, Examples}
 
 bench : Printed rows
 unfolding tabulate bits value unpack byteAt pack wordAt string words wire answer shifted taken allSound number after reply each itemsAfter runLines printed
@@ -24,5 +24,9 @@ bench-scans : Printed scanRows
 unfolding tabulate bits value unpack byteAt pack wordAt string words wire answer shifted taken allSound number after reply each itemsAfter runLines printed
 bench-scans = refl
 
+bench-marks : Printed markRows
+unfolding tabulate bits value unpack byteAt pack wordAt string words wire answer shifted taken allSound number after reply each itemsAfter runLines printed
+bench-marks = refl
+
 pub examples : Examples
-examples = record { bench = bench; lines = bench-lines; scans = bench-scans }
+examples = record { bench = bench; lines = bench-lines; scans = bench-scans; marked = bench-marks }

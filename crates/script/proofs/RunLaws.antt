@@ -15,15 +15,16 @@ use Rattle.refusals.specs.Refusals.{bytesFor}
 use Rattle.refusals.proofs.RefusalLaws.{size-served as sizes-fit}
 use Rattle.device.specs.PowerUp.{powerUp, freshChain}
 use Rattle.device.specs.declared.Device.{Device}
-use Rattle.display.specs.declared.SegmentAnswer.{SegmentAnswer}
 use Rattle.calls.specs.Calls.{Step, Question, Call, access, give, ask}
 use Rattle.calls.specs.Outcome.{number, after}
 use Rattle.calls.proofs.Accepted.{number-says}
 use Rattle.calls.proofs.Records.{length-after}
-use Rattle.row.specs.Row.{fresh, records, numberOn, replyOn, doneOn}
+use Rattle.row.specs.Row.{fresh, records, numberOn, replyOn, doneOn, shownOn}
 use Rattle.row.specs.declared.Row.{Row}
 use Rattle.row.specs.declared.Done.{Done}
-use Rattle.script.specs.Lines.{each, hexByte, pinText, answerLine, showLine, refusalLine, lineFor}
+use Rattle.row.specs.declared.Shown.{Shown}
+use Rattle.script.specs.Lines.{each, hexByte, pinText, answerLine, markLetter, showLine, refusalLine, lineFor}
+use Rattle.script.specs.Script.{namedMark}
 use Rattle.script.specs.Progress.{Written, Given, Obeyed}
 use Rattle.script.specs.declared.Progress.{Progress}
 use Rattle.script.proofs.RoomLaws.{length-each}
@@ -71,10 +72,10 @@ fresh-records n h = go n 16 h
     go (suc n) (suc m) h = ap (λ (ds : List Device). powerUp ∷ ds) (go n m (le-of-suc-le-suc h))
 
 -- a refused call of any kind prints its number
-refused-line : (q : Call) (number : ℕ) (back : List ℕ) → (number ≡ 0 → ⊥) → lineFor q number back ≡ refusalLine number
-refused-line (access c sent room) number back h = rw (ne-eqb number 0 h)
-refused-line (give j s) number back h = rw (ne-eqb number 0 h)
-refused-line (ask j q) number back h = rw (ne-eqb number 0 h)
+refused-line : (q : Call) (number : ℕ) (back : List ℕ) (mark : ℕ) → (number ≡ 0 → ⊥) → lineFor q number back mark ≡ refusalLine number
+refused-line (access c sent room) number back mark h = rw (ne-eqb number 0 h)
+refused-line (give j s) number back mark h = rw (ne-eqb number 0 h)
+refused-line (ask j q) number back mark h = rw (ne-eqb number 0 h)
 
 -- an answer's line
 answer-length : (bs : List ℕ) → length (answerLine bs) ≤ 3 + 2 * length bs
@@ -94,7 +95,7 @@ module _ (r : Row) (q : Call) (size at : ℕ) (out out′ : List ℕ) (done : Do
   refused end h z w =
       record {
         row-after = same-row;
-        line = rw (refused-line q (numberOn r q) (replyOn r q) (rw (← same-number) z), ← same-number) w;
+        line = rw (refused-line q (numberOn r q) (replyOn r q) (namedMark q (records r)) (rw (← same-number) z), ← same-number) w;
         short = omega (arith, w .place);
       }
 
@@ -119,24 +120,21 @@ pub given-obeyed : (r : Row) (j : ℕ) (s : Step) (size at : ℕ) (out out′ : 
 given-obeyed r j s size at out out′ done p e h g =
     record { row-after = g .row-after ∙ rw e; line = rw e at (g .line); short = omega (arith, g .short) }
 
--- what a cathode shows, asked of a row
-abbrev pub shownOn : Row → ℕ → Question → SegmentAnswer
-shownOn r j q = record { number = numberOn r (ask j q); pins = replyOn r (ask j q) }
-
-module _ (r : Row) (j : ℕ) (q : Question) (size at : ℕ) (out out′ : List ℕ) (a : SegmentAnswer) (end : ℕ) (e : a ≡ shownOn r j q) where
+module _ (r : Row) (j : ℕ) (q : Question) (size at : ℕ) (out out′ : List ℕ) (a : Shown) (end : ℕ) (e : a ≡ shownOn r j q) where
   same-answer : a .number ≡ numberOn r (ask j q)
   same-answer = rw e
 
   -- a show that is served
-  pub show-served : a .number ≡ 0 → length (a .pins) ≡ 19 → 6 ≤ size → Written (showLine (a .pins)) at out out′ end
+  pub show-served : a .number ≡ 0 → length (a .pins) ≡ 19 → 6 ≤ size → Written (showLine (a .pins) (a .mark)) at out out′ end
       → Obeyed r (ask j q) size at out out′ (record { row = r; at = end })
   show-served z l h w =
       let n : numberOn r (ask j q) ≡ 0 = sym same-answer ∙ z in
       let b : a .pins ≡ replyOn r (ask j q) = rw e in
+      let m : a .mark ≡ namedMark (ask j q) (records r) = rw (e, n) in
       record {
         row-after = sym (ask-leaves r j q);
-        line = rw (n, ← b) w;
-        short = omega (arith, w .place, length-append (each pinText (a .pins)) (10 ∷ []), length-each pinText 1 (λ x. refl) (a .pins));
+        line = rw (n, ← b, ← m) w;
+        short = omega (arith, w .place, length-append (each pinText (a .pins)) (32 ∷ markLetter (a .mark) ∷ 10 ∷ []), length-each pinText 1 (λ x. refl) (a .pins));
       }
 
   -- one that is refused

@@ -1,5 +1,5 @@
--- Believed: document 01, "Script program": the lines that the panel program prints, as bytes in ASCII: a newline, which ends each, is 10, a space 32, `0` 48, `1` 49,
--- `A` 65, `C` 67, `R` 82, `S` 83, `-` 45, and `chain` 99 104 97 105 110.
+-- Believed: document 01, "Script program", and document 02, request 1: the lines that the panel program prints, as bytes in ASCII: a newline, which ends each, is 10, a space 32, `0` 48, `1` 49,
+-- `A` 65, `C` 67, `R` 82, `S` 83, `-` 45, `f` 102, `s` 115, and `chain` 99 104 97 105 110.
 -- Assumes nothing.
 use Prim.Native.Nat.{ℕ, _+_, _/_, _%_}
 use mathlib.Core.List.{List, [], _∷_, _++_}
@@ -49,12 +49,16 @@ letter p = if (eqb p (pinCode Cathode)) 67 (if (eqb p (pinCode Lit)) 49 (if (eqb
 abbrev pub pinText : ℕ → List ℕ
 pinText p = letter p ∷ []
 
--- `S` and 19 letters, O0 first
-abbrev pub showLine : List ℕ → List ℕ
-showLine pins = 83 ∷ 32 ∷ each pinText pins ++ 10 ∷ []
+-- request 1: `f` when the answer mark is set, `s` when not
+abbrev pub markLetter : ℕ → ℕ
+markLetter m = if (eqb m 0) 115 102
 
--- what a call prints, by its number and what it gave back: served scans, pin levels and clocks print nothing
-abbrev pub lineFor : Call → ℕ → List ℕ → List ℕ
-lineFor (access c sent room) number back = if (eqb number 0) (answerLine (take (bytesFor c) back)) (refusalLine number)
-lineFor (give j s) number back = if (eqb number 0) [] (refusalLine number)
-lineFor (ask j q) number back = if (eqb number 0) (showLine back) (refusalLine number)
+-- `S` and 19 letters, O0 first; the mark's letter ends the line
+abbrev pub showLine : List ℕ → ℕ → List ℕ
+showLine pins mark = 83 ∷ 32 ∷ each pinText pins ++ 32 ∷ markLetter mark ∷ 10 ∷ []
+
+-- what a call prints, by its number, what it gave back, and the answer mark of the driver that it names: served scans, pin levels and clocks print nothing
+abbrev pub lineFor : Call → ℕ → List ℕ → ℕ → List ℕ
+lineFor (access c sent room) number back mark = if (eqb number 0) (answerLine (take (bytesFor c) back)) (refusalLine number)
+lineFor (give j s) number back mark = if (eqb number 0) [] (refusalLine number)
+lineFor (ask j q) number back mark = if (eqb number 0) (showLine back mark) (refusalLine number)

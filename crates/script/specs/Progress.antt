@@ -8,18 +8,18 @@ use lib.ListN.{length, drop}
 use lib.Seq.{sets}
 use Rattle.ground.specs.Choice.{if}
 use Rattle.calls.specs.Calls.{Call}
-use Rattle.row.specs.Row.{numberOn, replyOn, doneOn}
+use Rattle.row.specs.Row.{records, numberOn, replyOn, doneOn}
 use Rattle.row.specs.declared.Row.{Row}
 use Rattle.row.specs.declared.Done.{Done}
 use Rattle.script.specs.Lines.{refusalLine, lineFor}
 use Rattle.script.specs.Format.{items}
-use Rattle.script.specs.Script.{chainIn, othersIn}
+use Rattle.script.specs.Script.{namedMark, chainIn, othersIn}
 use Rattle.script.specs.declared.Progress.{Progress}
 use Rattle.script.specs.declared.Start.{Start}
 
 -- what a call on a row prints
 abbrev pub lineOn : Row → Call → List ℕ
-lineOn r q = lineFor q (numberOn r q) (replyOn r q)
+lineOn r q = lineFor q (numberOn r q) (replyOn r q) (namedMark q (records r))
 
 -- some bytes written into room from a place on, and the place after them
 pub record Written (text : List ℕ) (at : ℕ) (out out′ : List ℕ) (at′ : ℕ) : Type 0 where

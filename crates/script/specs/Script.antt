@@ -8,14 +8,21 @@ use Rattle.ground.specs.Choice.{if}
 use Rattle.refusals.specs.Refusals.{chainRefusal}
 use Rattle.device.specs.PowerUp.{freshChain}
 use Rattle.device.specs.declared.Device.{Device}
-use Rattle.calls.specs.Calls.{Call}
+use Rattle.calls.specs.Calls.{Call, access, give, ask}
+use Rattle.calls.specs.Served.{recordOf}
 use Rattle.calls.specs.Outcome.{number, after, reply}
 use Rattle.script.specs.Lines.{chainLine, refusalLine, lineFor}
 use Rattle.script.specs.Format.{Item, chain, call, malformed, items}
 
+-- the answer mark of the driver that a call names; an access names none
+abbrev pub namedMark : Call → List Device → ℕ
+namedMark (access c sent room) ds = 0
+namedMark (give j s) ds = recordOf ds j .«answer_mark»
+namedMark (ask j q) ds = recordOf ds j .«answer_mark»
+
 -- what a call on a chain prints
 abbrev pub callLine : Call → List Device → List ℕ
-callLine q ds = lineFor q (number q ds) (reply q ds)
+callLine q ds = lineFor q (number q ds) (reply q ds) (namedMark q ds)
 
 -- what records print on a chain; a malformed record, and a chain record that isn't first, are refused with 8, and the run stops
 unfoldable pub runLines : List Item → List Device → List ℕ

@@ -83,18 +83,18 @@ fn accessed(row: Row, body: &[u8], out: &mut [u8], at: usize) -> Progress
     Progress { row: next, at: end }
 }
 
-// A show: the pins of a cathode, or a refusal.
+// A show: the pins of a cathode and the answer mark, or a refusal.
 fn shown(row: Row, body: &[u8], table: &[u16], out: &mut [u8], at: usize) -> Progress
     requires { ⌜ (now table ≡ testTable) × (at + 28 ≤ length (now out)) ⌝ }
     ensures { λ r. ⌜ Obeyed row (callOf 6 (now (body .entry))) 7 at (now (out .entry)) (now (out .exit)) r ⌝ }
 {
     let driver = byte(body, 0) as usize;
     let cathode = byte(body, 1) as usize;
-    let answer = row.segments(driver, cathode, table, table);
+    let answer = row.show(driver, cathode, table, table);
     let number = answer.number;
     if number == 0 {
         let pins = answer.pins;
-        let end = show_line(pins, out, at);
+        let end = show_line(pins, answer.mark, out, at);
         return Progress { row: row, at: end };
     }
     let end = refusal_line(number, out, at);

@@ -2,7 +2,7 @@
 ghost use Prim.Native.Nat.{_+_, _*_, _<_, _≤_};
 ghost use mathlib.Core.Path.{_≡_};
 ghost use lib.ListN.{length};
-ghost use Rattle.script.specs.Lines.{digit as digitOf, chainLine, refusalLine, hexDigit, hexByte, pinText, each, answerLine, letter as letterOf, showLine};
+ghost use Rattle.script.specs.Lines.{digit as digitOf, chainLine, refusalLine, hexDigit, hexByte, pinText, each, answerLine, letter as letterOf, markLetter, showLine};
 ghost use Rattle.script.specs.Progress.{Written};
 
 // Some bytes as they are.
@@ -112,12 +112,19 @@ fn letters(pins: [u8; 19], out: &mut [u8], at: usize) -> usize
     place
 }
 
-// `S` and the letters of nineteen pins.
-pub(crate) fn show_line(pins: [u8; 19], out: &mut [u8], at: usize) -> usize
-    requires { ⌜ at + 22 ≤ length (now out) ⌝ }
-    ensures { λ r. ⌜ Written (showLine pins) at (now (out .entry)) (now (out .exit)) r ⌝ }
+// The answer mark's letter.
+fn mark_letter(mark: u8) -> u8
+    ensures { λ r. ⌜ r ≡ markLetter mark ⌝ }
+{
+    if mark == 0 { b's' } else { b'f' }
+}
+
+// `S`, the letters of nineteen pins, and that of the answer mark.
+pub(crate) fn show_line(pins: [u8; 19], mark: u8, out: &mut [u8], at: usize) -> usize
+    requires { ⌜ at + 24 ≤ length (now out) ⌝ }
+    ensures { λ r. ⌜ Written (showLine pins mark) at (now (out .entry)) (now (out .exit)) r ⌝ }
 {
     let start = text(b"S ", out, at);
     let end = letters(pins, out, start);
-    text(b"\n", out, end)
+    text(&[b' ', mark_letter(mark), b'\n'], out, end)
 }

@@ -10,14 +10,14 @@ use Rattle.script.proofs.shown.Tie as tie
 returns : tie.Need-returns
 returns c =
     let a = c .before .before .before .before .before .before .before .before .before .before .before .before .args in
-    let s = c .before .before .before .before .before .before .segments in
+    let s = c .before .before .before .before .before .before .show in
     show-served (a .row) (byte (a .body .now) 0) (segments (byte (a .body .now) 1) testTable testTable) 7 (a .at) _ _ (s .result) _
     (rw (c .before .before .before .before .before .before .before .before .byte .ensures, c .before .before .before .before .before .before .before .byte2 .ensures, c .before .before .before .before .before .before .before .before .before .before .before .before .pre .0) at (s .ensures)) (c .before .before .before .before .before .if1 .taken) (search needs) (omega arith) (c .before .before .show-line .ensures)
 
 returns-2 : tie.Need-returns-2
 returns-2 c =
     let a = c .before .before .before .before .before .before .before .before .before .before .before .args in
-    let s = c .before .before .before .before .before .segments in
+    let s = c .before .before .before .before .before .show in
     show-refused (a .row) (byte (a .body .now) 0) (segments (byte (a .body .now) 1) testTable testTable) 7 (a .at) _ _ (s .result) _
     (rw (c .before .before .before .before .before .before .before .byte .ensures, c .before .before .before .before .before .before .byte2 .ensures, c .before .before .before .before .before .before .before .before .before .before .before .pre .0) at (s .ensures)) (c .before .before .before .before .if1 .left) (omega arith) (c .before .before .refusal-line .ensures)
 

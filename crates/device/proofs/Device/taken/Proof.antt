@@ -6,11 +6,11 @@ use Rattle.device.proofs.Device.taken.Tie as tie
 
 returns : tie.Need-returns
 unfolding taken
-returns c = simp (c .before .before .before .before .before .before .before .with-shift .ensures, ← c .before .before .before .before .before .decode .ensures, c .before .before .before .register .given .1, c .before .written .ensures, c .with-registers .ensures)
+returns c = simp (c .before .before .before .before .before .with-shift .ensures, ← c .before .before .before .before .decode .ensures, c .before .before .register .given .1, c .written .ensures)
 
 returns-2 : tie.Need-returns-2
 unfolding taken
-returns-2 c = simp (c .before .before .before .before .before .before .with-shift .ensures, ← c .before .before .before .before .decode .ensures, c .before .before .register2 .given .1, c .answered .ensures)
+returns-2 c = simp (c .before .before .before .before .before .with-shift .ensures, ← c .before .before .before .before .decode .ensures, c .before .before .register2 .given .1, c .answered .ensures)
 
 pub taken-spec : {M : Type 1} → statement M
 taken-spec =
@@ -19,7 +19,6 @@ taken-spec =
     (λ c κs. search needs)
     (λ c κs. search needs)
     (λ c. search needs)
-    (λ c κs. search needs)
     (λ c κs. search needs)
     (λ c. search needs)
     (λ c κs. search needs)

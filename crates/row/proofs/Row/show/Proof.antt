@@ -1,8 +1,8 @@
--- `row::Row::segments` meets its contract. Assumes nothing.
+-- `row::Row::show` meets its contract. Assumes nothing.
 use borrow.Author.Needs.{needs}
 use Rattle.row.proofs.RowLaws.{show-refused, show-done}
-use Rattle.row.proofs.Row.segments.Statement.{statement}
-use Rattle.row.proofs.Row.segments.Tie as tie
+use Rattle.row.proofs.Row.show.Statement.{statement}
+use Rattle.row.proofs.Row.show.Tie as tie
 
 returns : tie.Need-returns
 returns c =
@@ -15,13 +15,13 @@ named-requires c κs = c .before .number .ensures .1 (c .if1 .left)
 
 returns-2 : tie.Need-returns-2
 returns-2 c =
-    let n = c .before .before .before in
+    let n = c .before .before .before .before in
     let a = n .before .before .before .before .args in
-    rw (c .segments .ensures, c .before .named .ensures)
-    (show-done (a .self) (a .driver) (a .cathode) (a .font14 .now) (a .font16 .now) _ _ (n .before .segments-refusal .ensures) (n .number .ensures .0) (c .before .before .if1 .left))
+    rw (c .before .segments .ensures, c .before .before .named .ensures)
+    (show-done (a .self) (a .driver) (a .cathode) (a .font14 .now) (a .font16 .now) _ _ (n .before .segments-refusal .ensures) (n .number .ensures .0) (c .before .before .before .if1 .left))
 
-pub segments-spec : {M : Type 1} → statement M
-segments-spec =
+pub show-spec : {M : Type 1} → statement M
+show-spec =
     tie.close
     (tie.spec
     (λ c κs. search needs)

@@ -1,0 +1,58 @@
+-- The proof of `specs/AnswerMark.antt`'s theorem.
+-- Assumes nothing.
+use Prim.Native.Nat.{ℕ, _-_, _≤_}
+use mathlib.Core.Bool.{Bool, true, false}
+use mathlib.Core.List.{List}
+use mathlib.Core.Path.{_≡_, refl, ap, _∙_}
+use lib.Dec.{eqb}
+use lib.ListN.{length}
+use lib.Seq.{map-set-same}
+use borrow.Author.Tests.{ne-eqb}
+use Rattle.ground.specs.Choice.{if, bit}
+use Rattle.device.specs.PowerUp.{powerUp}
+use Rattle.device.specs.declared.Device.{Device}
+use Rattle.device.proofs.Shift.{shift-word}
+use Rattle.calls.specs.Calls.{Step, scan, levels, clocks, Question, Call, access, give, ask}
+use Rattle.calls.specs.Served.{recordOf, stepped, served}
+use Rattle.calls.specs.Outcome.{number, after}
+use Rattle.calls.specs.NextAccess.{wordTaken}
+use Rattle.calls.specs.AnswerMark.{marks, AnswerMark}
+use Rattle.calls.proofs.Accepted.{after-zero}
+use Rattle.calls.proofs.Answered.{taken-at}
+
+-- no step touches the mark
+same-mark : (s : Step) (x : Device) → stepped s x .«answer_mark» ≡ x .«answer_mark»
+same-mark (scan a b c d) x = refl
+same-mark (levels l) x = refl
+same-mark (clocks k) x = refl
+
+by-access : (ds : List Device) (c : ℕ) (sent room : List ℕ) (i : ℕ) → 1 ≤ i → i ≤ length ds
+    → number (access c sent room) ds ≡ 0
+    → recordOf (after (access c sent room) ds) i .«answer_mark» ≡ if (bit 15 (wordTaken ds c sent i)) 1 0
+by-access ds c sent room i h g z =
+    ap (λ (xs : List Device). recordOf xs i .«answer_mark») (after-zero (access c sent room) ds z)
+    ∙ ap (λ (d : Device). d .«answer_mark») (taken-at ds i h g c sent room)
+    ∙ shift-word .marked (recordOf ds i) (wordTaken ds c sent i)
+
+by-step : (ds : List Device) (j : ℕ) (s : Step) → marks (after (give j s) ds) ≡ marks ds
+unfolding after
+by-step ds j s = go (eqb (number (give j s) ds) 0)
+  where
+    go : (b : Bool) → marks (if b (served (give j s) ds) ds) ≡ marks ds
+    go true = map-set-same (λ (d : Device). d .«answer_mark») ds (j - 1) _ powerUp (same-mark s (recordOf ds j))
+    go false = refl
+
+by-question : (ds : List Device) (j : ℕ) (q : Question) → marks (after (ask j q) ds) ≡ marks ds
+unfolding after
+by-question ds j q = go (eqb (number (ask j q) ds) 0)
+  where
+    go : (b : Bool) → marks (if b ds ds) ≡ marks ds
+    go true = refl
+    go false = refl
+
+by-refused : (ds : List Device) (q : Call) → (number q ds ≡ 0 → ⊥) → marks (after q ds) ≡ marks ds
+unfolding after
+by-refused ds q z = rw (ne-eqb (number q ds) 0 z)
+
+pub answer-mark : AnswerMark
+answer-mark = record { by-access = by-access; by-step = by-step; by-question = by-question; by-refused = by-refused }

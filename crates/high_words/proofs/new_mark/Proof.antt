@@ -1,0 +1,7 @@
+-- `high_words::new_mark` meets its contract. Assumes nothing.
+use Rattle.ground.proofs.Tests.{tests}
+use Rattle.high_words.proofs.new_mark.Statement.{statement}
+use Rattle.high_words.proofs.new_mark.Tie as tie
+
+pub new-mark-spec : {M : Type 1} → statement M
+new-mark-spec = tie.close (tie.spec (λ c. search tests) (λ c. search tests))

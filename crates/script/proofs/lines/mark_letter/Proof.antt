@@ -1,0 +1,7 @@
+-- `script::lines::mark_letter` meets its contract. Assumes nothing.
+use Rattle.ground.proofs.Tests.{tests}
+use Rattle.script.proofs.lines.mark_letter.Statement.{statement}
+use Rattle.script.proofs.lines.mark_letter.Tie as tie
+
+pub mark-letter-spec : {M : Type 1} → statement M
+mark-letter-spec = tie.close (tie.spec (λ c. search tests) (λ c. search tests))

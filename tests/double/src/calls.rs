@@ -43,6 +43,8 @@ pub enum Call {
     Shown { driver: usize },
     /// The interrupt: 1 when raised.
     Interrupt { driver: usize },
+    /// The answer mark: 1 when the latest access loaded the shift word by a read.
+    AnswerMark { driver: usize },
 }
 
 /// The number of a call and the bytes it gives back.
@@ -155,7 +157,8 @@ pub fn named_driver(call: &Call) -> Option<usize> {
         | Call::Segments { driver, .. }
         | Call::Brightness { driver, .. }
         | Call::Shown { driver }
-        | Call::Interrupt { driver } => Some(*driver),
+        | Call::Interrupt { driver }
+        | Call::AnswerMark { driver } => Some(*driver),
     }
 }
 
@@ -187,6 +190,7 @@ pub fn serve(record: &mut Record, call: &Call) -> Vec<u8> {
         Call::Brightness { digit, .. } => return vec![sixteenths(record, *digit)],
         Call::Shown { .. } => return vec![u8::from(shown(record) == Plane::P1)],
         Call::Interrupt { .. } => return vec![record.interrupt],
+        Call::AnswerMark { .. } => return vec![record.answer_mark],
     }
     Vec::new()
 }
@@ -195,7 +199,10 @@ pub fn serve(record: &mut Record, call: &Call) -> Vec<u8> {
 fn refused(call: &Call) -> Vec<u8> {
     match call {
         Call::Segments { .. } => NO_PIN_DRIVEN.to_vec(),
-        Call::Brightness { .. } | Call::Shown { .. } | Call::Interrupt { .. } => vec![0],
+        Call::Brightness { .. }
+        | Call::Shown { .. }
+        | Call::Interrupt { .. }
+        | Call::AnswerMark { .. } => vec![0],
         _ => Vec::new(),
     }
 }

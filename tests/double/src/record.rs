@@ -2,7 +2,7 @@
 
 use crate::blink::CYCLE;
 
-/// One driver's registers, planes, key state, pin levels, blink count and shift word.
+/// One driver's registers, planes, key state, pin levels, blink count, shift word and answer mark.
 #[derive(Clone, Debug, PartialEq, Eq)]
 pub struct Record {
     /// 0x01 decode mode.
@@ -49,6 +49,8 @@ pub struct Record {
     pub blink: u32,
     /// The 16-bit shift word.
     pub shift: u16,
+    /// 1 when the latest access loaded the shift word by a read.
+    pub answer_mark: u8,
     /// Bit d set: a 7-segment pair where the digit type leaves 16 or 7 open.
     pub fitted: u8,
 }
@@ -83,13 +85,22 @@ impl Record {
             pins: 0,
             blink: 0,
             shift: 0,
+            answer_mark: 0,
             fitted: 255,
         }
     }
 
     /// Every field fits its register's width and the blink count is below 4,000,000.
     pub fn sound(&self) -> bool {
-        let single = [self.test, self.i, self.e, self.b, self.s, self.interrupt];
+        let single = [
+            self.test,
+            self.i,
+            self.e,
+            self.b,
+            self.s,
+            self.interrupt,
+            self.answer_mark,
+        ];
         self.global <= 15
             && self.limit <= 7
             && self.gpio <= 31

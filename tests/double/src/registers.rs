@@ -7,13 +7,16 @@ use crate::ports;
 use crate::record::Record;
 
 /// The driver obeys its shift word: D15 is 1 for a read, D14 to D8 the address.
+/// A read of any address sets the answer mark, a write clears it.
 pub fn take(record: &mut Record) {
     let [high, low] = record.shift.to_be_bytes();
     if bit(high, 7) {
         let data = read(record, high - 0x80);
         record.shift = u16::from_be_bytes([high, data]);
+        record.answer_mark = 1;
     } else {
         write(record, high, low);
+        record.answer_mark = 0;
     }
 }
 

@@ -115,8 +115,21 @@ fn line(chain: &mut [Record], kind: u8, body: &[u8]) -> String {
     match kind {
         2 if reply.back.is_empty() => "A\n".to_string(),
         2 => format!("A {}\n", hexadecimal(&reply.back)),
-        6 => format!("S {}\n", letters(&reply.back)),
+        6 => {
+            let pins = letters(&reply.back);
+            format!("S {pins} {}\n", mark_letter(chain, body[0]))
+        }
         _ => String::new(),
+    }
+}
+
+/// The end of a show line: `f` where the shown driver's answer mark is set, otherwise `s`.
+fn mark_letter(chain: &mut [Record], driver: u8) -> char {
+    let driver = usize::from(driver);
+    if call(chain, &Call::AnswerMark { driver }).back == [1] {
+        'f'
+    } else {
+        's'
     }
 }
 

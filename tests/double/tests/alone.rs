@@ -37,7 +37,7 @@ fn any_access(source: &mut Source, n: usize) -> Call {
 
 fn any_call(source: &mut Source, n: usize) -> Call {
     let driver = source.below(n + 2);
-    match source.below(14) {
+    match source.below(15) {
         0 => Call::Scan {
             driver,
             keys: [source.below(4) as u8; 4],
@@ -69,6 +69,7 @@ fn any_call(source: &mut Source, n: usize) -> Call {
         },
         7 => Call::Shown { driver },
         8 => Call::Interrupt { driver },
+        9 => Call::AnswerMark { driver },
         _ => any_access(source, n),
     }
 }
@@ -82,7 +83,8 @@ fn share(n: usize, i: usize, asked: &Call, reply: &Reply) -> Option<Vec<u8>> {
         | Call::Segments { driver, .. }
         | Call::Brightness { driver, .. }
         | Call::Shown { driver }
-        | Call::Interrupt { driver } => *driver == i,
+        | Call::Interrupt { driver }
+        | Call::AnswerMark { driver } => *driver == i,
     };
     (own && reply.number == 0).then(|| reply.back.clone())
 }

@@ -64,8 +64,7 @@ fn every_kind_prints_its_line() {
         entry(2, &[0x00, 0x01]),
         entry(2, &[0x00, 0x00]),
     ];
-    let lines =
-        "chain 1\nS -------------------\nA 0000\nS C-1-111011011111100\nR 6\nR 2\nR 3\nR 4\nA\n";
+    let lines = "chain 1\nS ------------------- s\nA 0000\nS C-1-111011011111100 s\nR 6\nR 2\nR 3\nR 4\nA\n";
     assert_eq!(printed(&script), lines);
 }
 
@@ -77,7 +76,7 @@ fn show_uses_the_test_table() {
         entry(2, &[0x00, 0x10, 0x20, 0xC1]),
         entry(6, &[1, 0]),
     ];
-    let lines = "chain 1\nA 0000\nA 0401\nA 0C01\nS C-0-000-01010000011\n";
+    let lines = "chain 1\nA 0000\nA 0401\nA 0C01\nS C-0-000-01010000011 s\n";
     assert_eq!(printed(&script), lines);
 }
 
@@ -93,5 +92,39 @@ fn kinds_3_to_5_reach_the_driver() {
         script.push(entry(2, &[0x00, 0x10, high, 0x00]));
     }
     let lines = "chain 1\nA 0000\nA 067F\nA 8508\nA 8C11\nA 8D22\nA 8E33\nA 8F00\nA 8400\n";
+    assert_eq!(printed(&script), lines);
+}
+
+#[test]
+fn a_show_ends_with_the_answer_mark() {
+    let script = [
+        entry(1, &[1]),
+        entry(2, &[0x00, 0x10, 0x04, 0x01]),
+        entry(2, &[0x00, 0x10, 0x84, 0x00]),
+        entry(6, &[1, 0]),
+        entry(2, &[0x00, 0x10, 0x00, 0x00]),
+        entry(6, &[1, 0]),
+    ];
+    let zeros = "C-1-111011011111100";
+    let lines = format!("chain 1\nA 0000\nA 0401\nS {zeros} f\nA 8481\nS {zeros} s\n");
+    assert_eq!(printed(&script), lines);
+}
+
+#[test]
+fn a_dark_show_has_its_own_drivers_mark() {
+    let script = [
+        entry(1, &[2]),
+        entry(2, &[0x00, 0x20, 0x80, 0x00, 0x00, 0x00]),
+        entry(3, &[2, 1, 1, 1, 1]),
+        entry(4, &[2, 31]),
+        entry(5, &[2, 0, 0, 0, 1]),
+        entry(2, &[0x00, 0x10]),
+        entry(6, &[2, 0]),
+        entry(6, &[1, 0]),
+        entry(6, &[2, 8]),
+        entry(6, &[3, 0]),
+    ];
+    let dark = "-".repeat(19);
+    let lines = format!("chain 2\nA 00000000\nR 4\nS {dark} f\nS {dark} s\nR 6\nR 2\n");
     assert_eq!(printed(&script), lines);
 }

@@ -107,14 +107,24 @@ static void show_count(unsigned count, const char *tens_lit, const char *units_l
     expect(strcmp(tens, tens_lit) == 0 && strcmp(units, units_lit) == 0, "the segments of the count");
 }
 
+/* What the bench sees and a bus doesn't tell: whether the word that the driver holds is the answer of a read. */
+static unsigned holds_answer(void)
+{
+    const max6954_mark_answer given = max6954_answer_mark(panel, DRIVERS, DRIVER);
+    served("answer mark", given.number);
+    return given.mark;
+}
+
 /* An arm once closed on nothing: its controller took the word that came out in the read's own access, which was an old one. */
 static void read_without_a_key(void)
 {
     send(MASK_KEY_3);
-    const unsigned old = send(READ_KEYS_A);
+    const unsigned before = holds_answer(), old = send(READ_KEYS_A), after = holds_answer();
     printf("no key: the read %04X answers %04X in its own access, as if key 3 were closed; ", READ_KEYS_A, old);
     expect(old == MASK_KEY_3 && !answers(old, READ_KEYS_A), "the mask's word, which is stale");
     printf("but %02X isn't %02X, so that word is stale\n", old >> 8, READ_KEYS_A >> 8);
+    printf("the bench sees it too: the answer mark is %u before the read, %u after it\n", before, after);
+    expect(before == 0 && after == 1, "an answer mark that the read sets");
     const unsigned later = send(NO_OP);
     printf("one access later it answers %04X: no key\n", later);
     expect(answers(later, READ_KEYS_A) && (later & 0xFF) == 0, "no key one access later");

@@ -15,7 +15,7 @@
      5 room for answer bytes fewer than the clocks need
      6 cathode above 7, pin levels above 31, a digit (alone or in a range) above 15, a range's last digit below its first, a lent plane not 16
        long, or a glyph table not 128 long
-     7 some record of the chain isn't sound: a field doesn't fit its register, or the blink count isn't below 4,000,000
+     7 some record of the chain isn't sound: a field doesn't fit its register, the blink count isn't below 4,000,000, or the answer mark is above 1
    Any call may give 1 and 7, one that names a driver 2 too; which of 3 to 6 it may give stands with it. */
 #ifndef RATCHETELM_H
 #define RATCHETELM_H
@@ -23,8 +23,8 @@
 #include <stddef.h>
 #include <stdint.h>
 
-/* 0.1.0: 10,000 for each of the first number, 100 of the second, 1 of the third. */
-#define RATCHETELM_VERSION 100
+/* 0.2.0: 10,000 for each of the first number, 100 of the second, 1 of the third. */
+#define RATCHETELM_VERSION 200
 
 /* The bytes of a record as the library has it. A program can test at its start that its compiler lays it out alike: sizeof(max6954_device) is this. */
 #define MAX6954_DEVICE_SIZE 80
@@ -116,8 +116,9 @@ typedef struct {
 /* A driver's record. */
 typedef struct {
     max6954_registers registers;
-    uint16_t shift;     /* the shift word, D15 to D0: the next access clocks it out */
-    uint8_t fitted;     /* bit d: cathode d has a 7-segment pair where its digit type is 0, else 16 segments; no call changes it */
+    uint16_t shift;         /* the shift word, D15 to D0: the next access clocks it out */
+    uint8_t fitted;         /* bit d: cathode d has a 7-segment pair where its digit type is 0, else 16 segments; no call changes it */
+    uint8_t answer_mark;    /* 1 when the word that the driver last took was a read, so that the shift word is its answer, else 0 */
 } max6954_device;
 
 /* A pin of a segment answer. */
@@ -150,6 +151,11 @@ typedef struct {
     uint8_t raised;    /* 1 when raised, else 0; 0 where refused */
 } max6954_interrupt_answer;
 
+typedef struct {
+    uint8_t number;
+    uint8_t mark;    /* 1 when set, else 0; 0 where refused */
+} max6954_mark_answer;
+
 /* A driver at power-up: in shutdown, every cathode fitted with a 7-segment pair. */
 max6954_device max6954_power_up(void);
 
@@ -181,6 +187,10 @@ max6954_shown_answer max6954_shown(const max6954_device *chain, size_t n, size_t
 
 /* Whether a driver's interrupt is raised. Asking doesn't clear it; reading a debounced register does. */
 max6954_interrupt_answer max6954_interrupt(const max6954_device *chain, size_t n, size_t driver);
+
+/* Whether the word that a driver last took was a read, of any address. Every access that is served decides it afresh for every driver, also at
+   0 clocks; nothing else changes it, and it isn't set at power-up. */
+max6954_mark_answer max6954_answer_mark(const max6954_device *chain, size_t n, size_t driver);
 
 /* The number of a call of max6954_plane. Gives 6. */
 uint8_t max6954_plane_number(const max6954_device *chain, size_t n, size_t driver, const uint8_t *p0, size_t p0_length, const uint8_t *p1,

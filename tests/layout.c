@@ -12,12 +12,12 @@ static max6954_device chain[DRIVERS];
 static int passed, failed;
 
 /* Steps are text, each a letter and a hex number: W a word sent to the driver, S a scan (a byte for each group, A first), P pin levels, C master
-   clocks. Questions too: W gives the word that comes out, R a register's data, I the interrupt, O a pin of cathode 0. */
+   clocks. Questions too: W gives the word that comes out, R a register's data, I the interrupt, M the answer mark, O a pin of cathode 0. */
 typedef struct {
     const char *name;
     size_t offset, width, elements;
     const char *before;      /* steps from power-up */
-    const char *step;        /* changes this field alone, beside the shift word that a word sent changes; NULL where no call changes the field */
+    const char *step;        /* changes this field alone, beside the shift word and the mark where it sends a word; NULL where no call changes it */
     unsigned value;          /* what the field holds after it */
     const char *question;    /* its last step gives */
     unsigned answer;         /* this where C has put the value in, and not before */
@@ -59,6 +59,7 @@ static const field fields[] = {
     { FIELD(registers.blink), "", "C212345", 0x212345, "R8400", 0, 4000000 },
     { FIELD(shift), "", "W7F5A", 0x7F5A, "W0000", 0x7F5A, 0 },
     { FIELD(fitted), "W0401", NULL, 0, "O3", MAX6954_UNLIT, 0 },
+    { FIELD(answer_mark), "", "W8000", 1, "M0", 1, 2 },
 };
 
 static void holds(const char *what, const char *name, int yes)
@@ -98,6 +99,8 @@ static unsigned stepped(char kind, unsigned v)
         return max6954_add_clocks(chain, DRIVERS, DRIVER, v);
     case 'I':
         return max6954_interrupt(chain, DRIVERS, DRIVER).raised;
+    case 'M':
+        return max6954_answer_mark(chain, DRIVERS, DRIVER).mark;
     default:
         return max6954_segments(chain, DRIVERS, DRIVER, 0, font, 128, font, 128).pins[v];
     }
@@ -121,25 +124,33 @@ static void prepare(const char *steps)
     run(steps, 0);
 }
 
-/* A value put into the driver's field by C. */
+/* Where C has the driver's field. */
+static uint8_t *place(max6954_device *records, const field *f, unsigned k)
+{
+    return (uint8_t *)&records[DRIVER - 1] + f->offset + k * f->width;
+}
+
+/* A value put there by C. */
 static void put(const field *f, unsigned k, unsigned v)
 {
     const uint8_t one = (uint8_t)v;
     const uint16_t two = (uint16_t)v;
     const uint32_t four = v;
     const void *from = f->width == 1 ? (const void *)&one : f->width == 2 ? (const void *)&two : (const void *)&four;
-    memcpy((uint8_t *)&chain[DRIVER - 1] + f->offset + k * f->width, from, f->width);
+    memcpy(place(chain, f, k), from, f->width);
 }
 
-/* The bytes of a record; after them comes padding. */
-enum { BYTES = offsetof(max6954_device, fitted) + 1 };
-
+/* Records have no padding: see covered. */
 static int same(const max6954_device *records)
 {
-    int all = 1;
-    for (int i = 0; i < DRIVERS; i++)
-        all = all && memcmp(&chain[i], &records[i], BYTES) == 0;
-    return all;
+    return memcmp(chain, records, sizeof chain) == 0;
+}
+
+/* The driver's shift word and answer mark as a word sent left them. */
+static void put_word(const max6954_device *after)
+{
+    chain[DRIVER - 1].shift = after[DRIVER - 1].shift;
+    chain[DRIVER - 1].answer_mark = after[DRIVER - 1].answer_mark;
 }
 
 /* The step leaves what C leaves by putting the value in, and that is something else than before. */
@@ -150,9 +161,9 @@ static int written(const field *f, unsigned k)
     run(f->step, k);
     memcpy(after, chain, sizeof chain);
     prepare(f->before);
-    if (f->step[0] == 'W' && f->offset != offsetof(max6954_device, shift))
-        chain[DRIVER - 1].shift = after[DRIVER - 1].shift;
-    const int changed = !same(after);
+    const int changed = memcmp(place(chain, f, k), place(after, f, k), f->width) != 0;
+    if (f->step[0] == 'W')
+        put_word(after);
     put(f, k, f->value);
     return changed && same(after);
 }
@@ -195,7 +206,7 @@ static int covered(void)
     for (size_t i = 0; i < sizeof fields / sizeof fields[0]; i++)
         for (size_t b = 0; b < fields[i].width * fields[i].elements; b++)
             rows[fields[i].offset + b]++;
-    for (size_t b = 0; b < BYTES; b++)
+    for (size_t b = 0; b < sizeof rows / sizeof rows[0]; b++)
         all = all && rows[b] == 1;
     return all;
 }
@@ -212,7 +223,7 @@ static int powered_up(void)
     memset(up.registers.planes.p1, 32, 8);
     up.fitted = 255;
     const max6954_device given = max6954_power_up();
-    return memcmp(&given, &up, BYTES) == 0;
+    return memcmp(&given, &up, sizeof up) == 0;
 }
 
 /* Each answer's fields, served to the driver and refused to one that isn't there. */
@@ -221,8 +232,8 @@ static void answers(void)
     static const uint16_t font[128] = { 0 };
     static const uint8_t plane[16] = { 0 };
     static const uint8_t pins[19] = { 1, 0, 2, 4, 2, 2, 3, 2, 2, 2, 2, 2, 2, 2, 2, 2, 2, 3, 3 }, none[19] = { 0 };
-    /* global intensity 9, blinking; an A with its point on digit 0 of P1, which is shown; a key debounced */
-    prepare("W0209 W0409 W408A C200000 W0680 W0810 S10000000 S10000000");
+    /* global intensity 9, blinking; an A with its point on digit 0 of P1, which is shown; a key debounced; decode mode read */
+    prepare("W0209 W0409 W408A C200000 W0680 W0810 S10000000 S10000000 W8100");
     const max6954_segment_answer s = max6954_segments(chain, DRIVERS, DRIVER, 0, font, 128, font, 128);
     const max6954_segment_answer s4 = max6954_segments(chain, DRIVERS, 4, 0, font, 128, font, 128);
     holds("served", "segment answer", s.number == 0 && sizeof s.pins == 19 && memcmp(s.pins, pins, 19) == 0);
@@ -240,6 +251,9 @@ static void answers(void)
     const max6954_interrupt_answer i = max6954_interrupt(chain, DRIVERS, DRIVER), i4 = max6954_interrupt(chain, DRIVERS, 4);
     holds("served", "interrupt answer", i.number == 0 && i.raised == 1);
     holds("refused", "interrupt answer", i4.number == 2 && i4.raised == 0);
+    const max6954_mark_answer m = max6954_answer_mark(chain, DRIVERS, DRIVER), m4 = max6954_answer_mark(chain, DRIVERS, 4);
+    holds("served", "mark answer", m.number == 0 && m.mark == 1);
+    holds("refused", "mark answer", m4.number == 2 && m4.mark == 0);
 }
 
 int main(void)

@@ -1,4 +1,4 @@
-/* The exported calls from C: bench examples on a chain, each number with nothing changed, and what a driver shows. */
+/* The exported calls from C: bench examples on a chain, each number with nothing changed, what a driver shows, and answer marks. */
 #include <stddef.h>
 #include <stdio.h>
 #include <string.h>
@@ -111,8 +111,14 @@ static void refusals(void)
     refused("7: an unsound record, whichever driver is named", 7, max6954_interrupt(chain, 3, 1).number);
     refused("7: an unsound record, in a part", 7, max6954_plane_shown(chain, 3, 1, plane, 16, plane, 16, 0, 15).number);
     refused("7: an unsound record, in an access", 7, max6954_access(chain, 3, 48, bytes, 6, answer, 6));
+    chain[0].answer_mark = 1;
     int zero = max6954_brightness(chain, 3, 1, 0).sixteenths == 0 && max6954_shown(chain, 3, 1).plane == 0;
-    holds("a refused answer holds 0 and drives no pin", zero && max6954_interrupt(chain, 3, 1).raised == 0 && undriven(max6954_segments(chain, 3, 1, 0, font, 128, font, 128)));
+    zero = zero && max6954_interrupt(chain, 3, 1).raised == 0 && max6954_answer_mark(chain, 3, 1).mark == 0;
+    holds("a refused answer holds 0 and drives no pin", zero && undriven(max6954_segments(chain, 3, 1, 0, font, 128, font, 128)));
+    fresh();
+    chain[2].answer_mark = 2;
+    remember();
+    refused("7: an answer mark of 2", 7, max6954_answer_mark(chain, 3, 1).number);
 }
 
 /* Document 01's table of numbers. */
@@ -184,12 +190,36 @@ static void questions(void)
     holds("pin levels replace the driver's own", pins_given && chain[1].registers.pins == 31 && chain[0].registers.pins == 0);
 }
 
+/* Whether the answer marks of two drivers are these. */
+static int marked(int first, int second)
+{
+    const max6954_mark_answer a = max6954_answer_mark(chain, 2, 1), b = max6954_answer_mark(chain, 2, 2);
+    return a.number == 0 && b.number == 0 && a.mark == first && b.mark == second;
+}
+
+static void answer_marks(void)
+{
+    fresh();
+    holds("answer mark: 0 at power-up", marked(0, 0));
+    holds("a read sets the mark of the driver that takes it", sent(2, 32, "\x84\x00\x04\x01") == 0 && marked(0, 1));
+    holds("and so does one of an unlisted address", sent(2, 32, "\x84\x00\xFF\x00") == 0 && marked(1, 1));
+    int other = max6954_scan(chain, 2, 2, 1, 1, 1, 1) == 0 && max6954_set_pins(chain, 2, 2, 1) == 0 && max6954_add_clocks(chain, 2, 2, 1) == 0;
+    holds("a refused access and the other calls leave it", other && max6954_access(chain, 2, 32, NULL, 0, answer, 4) == 4 && marked(1, 1));
+    holds("16 clocks: a write clears driver 1's, and driver 2 takes the read that driver 1 had", sent(2, 16, "\x04\x01") == 0 && marked(0, 1));
+    holds("16 more clear driver 2's", sent(2, 16, "\x00\x00") == 0 && marked(0, 0));
+    int read = sent(2, 32, "\x84\x00\x00\x00") == 0;
+    chain[0].answer_mark = 1;
+    chain[1].answer_mark = 0;
+    holds("0 clocks decide it afresh", read && max6954_access(chain, 2, 0, NULL, 0, NULL, 0) == 0 && marked(0, 1));
+}
+
 int main(void)
 {
     examples();
     refusals();
     words();
     questions();
+    answer_marks();
     printf("%d passed, %d failed\n", passed, failed);
     return failed != 0;
 }

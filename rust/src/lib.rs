@@ -4,7 +4,7 @@
 //! served, or refused with the lowest [`Refusal`] that applies; then no record and no lent byte has changed.
 //!
 //! ```
-//! use ratchetelm::{access, Device, Refusal};
+//! use ratchetelm::{access, answer_mark, Device, Refusal};
 //!
 //! let mut chain = [Device::power_up(); 2];
 //! let mut answer = [0; 4];
@@ -17,7 +17,8 @@
 //! access(&mut chain, 32, &[0x00, 0x00, 0x83, 0x00], &mut answer)?;
 //! assert_eq!(answer, [0x00, 0x00, 0x03, 0x03]);
 //!
-//! // The read's answer comes out one access later.
+//! // The word that it holds now is an answer, and comes out one access later.
+//! assert!(answer_mark(&chain, 1)?);
 //! access(&mut chain, 32, &[0; 4], &mut answer)?;
 //! assert_eq!(answer, [0x00, 0x00, 0x83, 0x03]);
 //!
@@ -197,4 +198,12 @@ pub fn interrupt(chain: &[Device], driver: usize) -> Result<bool, Refusal> {
     let answer = unsafe { sys::max6954_interrupt(chain.as_ptr(), chain.len(), driver) };
     Refusal::of(answer.number)?;
     Ok(answer.raised == 1)
+}
+
+/// Whether the word that a driver last took was a read, so that its shift word is an answer.
+pub fn answer_mark(chain: &[Device], driver: usize) -> Result<bool, Refusal> {
+    // SAFETY: the pointer has the length of its slice, and nothing is written.
+    let answer = unsafe { sys::max6954_answer_mark(chain.as_ptr(), chain.len(), driver) };
+    Refusal::of(answer.number)?;
+    Ok(answer.mark == 1)
 }

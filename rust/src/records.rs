@@ -96,6 +96,8 @@ pub struct Device {
     pub shift: u16,
     /// Bit d: cathode d has a 7-segment pair where its digit type is 0, else 16 segments; no call changes it.
     pub fitted: u8,
+    /// 1 when the word that the driver last took was a read, so that the shift word is its answer, else 0.
+    pub answer_mark: u8,
 }
 
 impl Device {

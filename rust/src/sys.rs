@@ -29,6 +29,12 @@ pub struct InterruptAnswer {
     pub raised: u8,
 }
 
+#[repr(C)]
+pub struct MarkAnswer {
+    pub number: u8,
+    pub mark: u8,
+}
+
 extern "C" {
     pub fn max6954_power_up() -> Device;
 
@@ -77,6 +83,8 @@ extern "C" {
     pub fn max6954_shown(chain: *const Device, n: usize, driver: usize) -> ShownAnswer;
 
     pub fn max6954_interrupt(chain: *const Device, n: usize, driver: usize) -> InterruptAnswer;
+
+    pub fn max6954_answer_mark(chain: *const Device, n: usize, driver: usize) -> MarkAnswer;
 
     pub fn max6954_plane_shown(
         chain: *const Device,

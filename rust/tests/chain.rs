@@ -1,7 +1,7 @@
 //! The library through the safe calls: each call served and refused, and every field where its name is.
 use ratchetelm::{
-    access, add_clocks, brightness, interrupt, plane, scan, segments, set_pins, shown, Config,
-    Controls, Device, Group, Pin, Plane, Refusal,
+    access, add_clocks, answer_mark, brightness, interrupt, plane, scan, segments, set_pins, shown,
+    Config, Controls, Device, Group, Pin, Plane, Refusal,
 };
 use std::mem::size_of;
 
@@ -25,7 +25,7 @@ fn chain_after(words: &[u16]) -> [Device; 2] {
     chain
 }
 
-/// Driver 2 has been given something for every register, its keys, pins and blink count.
+/// Driver 2 has been given something for every register, its keys, pins and blink count; its last word is a read.
 fn filled() -> [Device; 2] {
     let mut chain = chain_after(&[
         0x0111, 0x0202, 0x0303, 0x044D, 0x0515, 0x0680, 0x0701, 0x0C88,
@@ -40,6 +40,7 @@ fn filled() -> [Device; 2] {
         send(&mut chain, 0x2060 + 0x101 * k);
         send(&mut chain, 0x4080 + 0x101 * k);
     }
+    send(&mut chain, 0x8100);
     assert_eq!(scan(&mut chain, 2, [0x11, 0x20, 0x40, 0x80]), Ok(()));
     assert_eq!(scan(&mut chain, 2, [0x11, 0x28, 0x42, 0x84]), Ok(()));
     assert_eq!(set_pins(&mut chain, 2, 21), Ok(()));
@@ -61,7 +62,8 @@ fn group(mask: u8, debounced: u8, pressed: u8) -> Group {
 fn every_field_is_where_its_name_is() {
     let [first, second] = filled();
     assert_eq!(first, Device::power_up());
-    assert_eq!((second.shift, second.fitted), (0x4F8F, 255));
+    assert_eq!((second.shift, second.fitted), (0x8111, 255));
+    assert_eq!(second.answer_mark, 1);
     let r = second.registers;
     let controls = Controls {
         decode: 0x11,
@@ -134,6 +136,26 @@ fn a_read_is_answered_one_access_later() {
 }
 
 #[test]
+fn every_access_decides_the_answer_mark() {
+    let marks = |chain: &[Device]| [answer_mark(chain, 1), answer_mark(chain, 2)];
+    let mut chain = chain_after(&[0x0401]);
+    assert_eq!(marks(&chain), [Ok(false); 2]);
+    send(&mut chain, 0xFF00);
+    assert_eq!(marks(&chain), [Ok(false), Ok(true)]);
+    // At 0 clocks each driver takes its word again.
+    (chain[0].answer_mark, chain[1].answer_mark) = (1, 0);
+    assert_eq!(access(&mut chain, 0, &[], &mut []), Ok(()));
+    assert_eq!(marks(&chain), [Ok(false), Ok(true)]);
+    // The other calls leave it.
+    assert_eq!(scan(&mut chain, 2, [0; 4]), Ok(()));
+    assert_eq!(set_pins(&mut chain, 2, 1), Ok(()));
+    assert_eq!(add_clocks(&mut chain, 2, 1), Ok(()));
+    assert_eq!(marks(&chain), [Ok(false), Ok(true)]);
+    send(&mut chain, 0x0000);
+    assert_eq!(marks(&chain), [Ok(false); 2]);
+}
+
+#[test]
 fn a_cathode_shows_its_pins() {
     let mut chain = chain_after(&[0x0401, 0x208A]);
     let numbers = [1, 0, 2, 4, 2, 2, 3, 2, 2, 2, 2, 2, 2, 2, 2, 2, 2, 3, 3];
@@ -193,7 +215,7 @@ fn numbers(
     sent: &[u8],
     above: usize,
     font: &[u16],
-) -> [u8; 9] {
+) -> [u8; 10] {
     let number = |result: Result<(), Refusal>| result.map_or_else(Refusal::number, |()| 0);
     let planes = [0; 16];
     [
@@ -206,22 +228,31 @@ fn numbers(
         number(brightness(chain, driver, 15 + above).map(drop)),
         number(shown(chain, driver).map(drop)),
         number(interrupt(chain, driver).map(drop)),
+        number(answer_mark(chain, driver).map(drop)),
     ]
 }
 
 #[test]
 fn each_call_is_refused_by_its_number() {
     let fresh = [Device::power_up(); 17];
-    let (mut late, mut high) = (fresh, fresh);
+    let (mut late, mut high, mut marked) = (fresh, fresh, fresh);
     late[2].registers.blink = 4_000_000;
     high[2].registers.pins = 1 << 31;
+    marked[2].answer_mark = 2;
+    // 2, but for an access, which names no driver.
+    let no_driver = |access: u8| {
+        let mut numbers = [2; 10];
+        numbers[0] = access;
+        numbers
+    };
     let rows = [
-        (&fresh[..0], 1, 16, 2, 0, 128, [1; 9]),
-        (&fresh[..], 1, 16, 2, 0, 128, [1; 9]),
-        (&fresh[..3], 0, 4097, 0, 1, 128, [3, 2, 2, 2, 2, 2, 2, 2, 2]),
-        (&fresh[..3], 4, 17, 2, 1, 128, [4, 2, 2, 2, 2, 2, 2, 2, 2]),
-        (&late[..3], 1, 17, 3, 1, 128, [5, 7, 6, 7, 6, 6, 6, 7, 7]),
-        (&high[..3], 3, 16, 2, 0, 127, [7, 7, 7, 7, 7, 6, 7, 7, 7]),
+        (&fresh[..0], 1, 16, 2, 0, 128, [1; 10]),
+        (&fresh[..], 1, 16, 2, 0, 128, [1; 10]),
+        (&fresh[..3], 0, 4097, 0, 1, 128, no_driver(3)),
+        (&fresh[..3], 4, 17, 2, 1, 128, no_driver(4)),
+        (&late[..3], 1, 17, 3, 1, 128, [5, 7, 6, 7, 6, 6, 6, 7, 7, 7]),
+        (&high[..3], 3, 16, 2, 0, 127, [7, 7, 7, 7, 7, 6, 7, 7, 7, 7]),
+        (&marked[..3], 1, 16, 2, 0, 128, [7; 10]),
     ];
     for (records, driver, clocks, length, above, font, expected) in rows {
         let mut chain = records.to_vec();
@@ -236,7 +267,10 @@ fn each_call_is_refused_by_its_number() {
         assert_eq!((given, &chain[..]), (expected, records));
     }
     let mut chain = fresh;
-    assert_eq!(numbers(&mut chain[..16], 16, 16, &[0; 2], 0, &FONT), [0; 9]);
+    assert_eq!(
+        numbers(&mut chain[..16], 16, 16, &[0; 2], 0, &FONT),
+        [0; 10]
+    );
     assert_eq!(access(&mut chain[..1], 0, &[], &mut []), Ok(()));
 }
 

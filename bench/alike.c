@@ -8,9 +8,6 @@
 
 enum { ROWS = 50000, CALLS_ON_A_ROW = 12, GUARD = 8 };
 
-/* The bytes of a record; after them comes padding. */
-enum { BYTES = offsetof(max6954_device, fitted) + 1 };
-
 static const struct {
     const char *name, *numbers;    /* and the numbers that it may give */
 } kinds[KINDS] = {
@@ -22,6 +19,7 @@ static const struct {
     [BRIGHTNESS] = { "brightness", "01267" },
     [SHOWN] = { "shown", "0127" },
     [INTERRUPT] = { "interrupt", "0127" },
+    [ANSWER_MARK] = { "answer_mark", "0127" },
     [PLANE] = { "plane", "01267" },
 };
 
@@ -36,14 +34,15 @@ typedef struct {
     __typeof__(&max6954_brightness) brightness;
     __typeof__(&max6954_shown) shown;
     __typeof__(&max6954_interrupt) interrupt;
+    __typeof__(&max6954_answer_mark) answer_mark;
     __typeof__(&max6954_plane_number) plane_number;
     __typeof__(&max6954_plane_shown) plane_shown;
     __typeof__(&max6954_plane) plane;
 } calls;
 
 #define CALLS(p)                                                                                                                         \
-    p##access, p##scan, p##set_pins, p##add_clocks, p##segments, p##brightness, p##shown, p##interrupt, p##plane_number, p##plane_shown, \
-        p##plane
+    p##access, p##scan, p##set_pins, p##add_clocks, p##segments, p##brightness, p##shown, p##interrupt, p##answer_mark, p##plane_number, \
+        p##plane_shown, p##plane
 
 static const calls doubles[2] = { { "library", CALLS(max6954_) }, { "tuned  ", CALLS(tuned_) } };
 
@@ -109,6 +108,12 @@ static reply made(const calls *by, lent *on, const call *c)
         r.back[0] = a.raised;
         break;
     }
+    case ANSWER_MARK: {
+        const max6954_mark_answer a = by->answer_mark(chain, c->n, c->driver);
+        r.number = a.number;
+        r.back[0] = a.mark;
+        break;
+    }
     case PLANE: {
         const max6954_shown_answer a = by->plane_shown(chain, c->n, c->driver, p0, c->lengths[0], p1, c->lengths[1], c->first, c->last);
         r.number = by->plane_number(chain, c->n, c->driver, p0, c->lengths[0], p1, c->lengths[1], c->first, c->last);
@@ -121,9 +126,10 @@ static reply made(const calls *by, lent *on, const call *c)
     return r;
 }
 
+/* Records have no padding. */
 static int same_record(size_t i)
 {
-    return memcmp(&after[0].records[i], &after[1].records[i], BYTES) == 0;
+    return memcmp(&after[0].records[i], &after[1].records[i], sizeof after[0].records[i]) == 0;
 }
 
 static int same(const reply *r, size_t n)
@@ -162,9 +168,9 @@ static void print_results(const call *c, const reply *r)
         if (same_record(i) && i != c->driver)
             continue;
         printf("  record %zu\n", i);
-        print_bytes("before ", &before.records[i], BYTES);
+        print_bytes("before ", &before.records[i], sizeof before.records[i]);
         for (int k = 0; k < 2; k++)
-            print_bytes(doubles[k].name, &after[k].records[i], BYTES);
+            print_bytes(doubles[k].name, &after[k].records[i], sizeof after[k].records[i]);
     }
     for (size_t i = 0; i < sizeof before.room; i++)
         if (after[0].room[i] != after[1].room[i])
@@ -204,11 +210,11 @@ static int row_is_alike(unsigned long given[KINDS][8])
 static int power_up_is_alike(void)
 {
     const max6954_device ours = max6954_power_up(), tuned = tuned_power_up();
-    const int alike = memcmp(&ours, &tuned, BYTES) == 0;
+    const int alike = memcmp(&ours, &tuned, sizeof ours) == 0;
     if (!alike) {
         printf("DIFFERENCE: power_up\n");
-        print_bytes(doubles[0].name, &ours, BYTES);
-        print_bytes(doubles[1].name, &tuned, BYTES);
+        print_bytes(doubles[0].name, &ours, sizeof ours);
+        print_bytes(doubles[1].name, &tuned, sizeof tuned);
     }
     return alike;
 }

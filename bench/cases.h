@@ -6,7 +6,7 @@
 
 enum { MOST_RECORDS = 18, MOST_BYTES = 521 };
 
-enum { ACCESS, SCAN, SET_PINS, ADD_CLOCKS, SEGMENTS, BRIGHTNESS, SHOWN, INTERRUPT, PLANE, KINDS };
+enum { ACCESS, SCAN, SET_PINS, ADD_CLOCKS, SEGMENTS, BRIGHTNESS, SHOWN, INTERRUPT, ANSWER_MARK, PLANE, KINDS };
 
 /* A call: its driver, and its other arguments as far as its kind has them. */
 typedef struct {

@@ -12,9 +12,6 @@
 
 enum { ROUNDS = 100, POOL = 32768 };
 
-/* The bytes of a record; after them comes padding. */
-enum { BYTES = offsetof(max6954_device, fitted) + 1 };
-
 enum { RANDOM, READS, DIGITS };
 static const char *const accesses[] = { "access random", "access reads", "access digits" };
 
@@ -54,6 +51,7 @@ BOTH(segments, segments(chain, n, DRIVER, ANY % 8, font, 128, font, 128).pins[18
 BOTH(brightness, brightness(chain, n, DRIVER, ANY % 16).sixteenths)
 BOTH(shown, shown(chain, n, DRIVER).plane)
 BOTH(interrupt, interrupt(chain, n, DRIVER).raised)
+BOTH(answer_mark, answer_mark(chain, n, DRIVER).mark)
 BOTH(plane_number, plane_number(chain, n, DRIVER, p0, 16, p1, 16, 2, 9))
 BOTH(plane_shown, plane_shown(chain, n, DRIVER, p0, 16, p1, 16, 2, 9).plane)
 BOTH(plane, plane(chain, n, DRIVER, p0, 16, p1, 16, 2, 9)[0])
@@ -73,6 +71,7 @@ static const struct {
     { "brightness", brightness_ours, brightness_tuned, 7, 1.5 },
     { "shown", shown_ours, shown_tuned, 7, 1.5 },
     { "interrupt", interrupt_ours, interrupt_tuned, 7, 1.5 },
+    { "answer_mark", answer_mark_ours, answer_mark_tuned, 7, 1.5 },
     { "plane_number", plane_number_ours, plane_number_tuned, 7, 1.5 },
     { "plane_shown", plane_shown_ours, plane_shown_tuned, 7, 0 },
     { "plane", plane_ours, plane_tuned, 7, 0 },
@@ -102,6 +101,7 @@ static void fresh(max6954_device *chain, unsigned segments)
         d.registers.keys.a.mask = 255;
         fill(&d.registers.planes, sizeof d.registers.planes);
         d.shift = (uint16_t)(0x2000 + i * 0x111);
+        d.answer_mark = i >> 1 & 1;
         chain[i] = d;
     }
 }
@@ -144,12 +144,10 @@ static void time_round(timed *t, const setup *s, unsigned from, unsigned to)
         t->ns = ns;
 }
 
+/* Records have no padding. */
 static int same(const timed *a, const timed *b)
 {
-    int all = a->sum == b->sum;
-    for (int i = 0; i < 16; i++)
-        all = all && memcmp(&a->chain[i], &b->chain[i], BYTES) == 0;
-    return all;
+    return a->sum == b->sum && memcmp(a->chain, b->chain, sizeof a->chain) == 0;
 }
 
 static char missed[100][80];

@@ -57,7 +57,7 @@ static inline void store16(void *to, uint16_t x)
 /* The fields that have a bound, of every record seen. */
 typedef struct {
     uint64_t controls;
-    uint32_t config, interrupt, pins, blink;
+    uint32_t config, flags, pins, blink;    /* flags: the interrupt and the answer mark */
 } bounds;
 
 static inline void see(bounds *seen, const max6954_device *d)
@@ -66,14 +66,14 @@ static inline void see(bounds *seen, const max6954_device *d)
     const uint32_t count = d->registers.blink;
     seen->controls |= load64(bytes);
     seen->config |= load32(bytes + 8);
-    seen->interrupt |= d->registers.keys.interrupt;
+    seen->flags |= d->registers.keys.interrupt | d->answer_mark;
     seen->pins |= d->registers.pins;
     seen->blink |= count | (CYCLE - 1 - count);    /* the top bit where the count isn't below the cycle */
 }
 
 static inline int unsound(const bounds *seen)
 {
-    return ((seen->controls & UNSOUND) | (seen->config & UNSOUND_CONFIG) | (seen->interrupt & ~1u) | (seen->pins & ~31u) | seen->blink >> 31) != 0;
+    return ((seen->controls & UNSOUND) | (seen->config & UNSOUND_CONFIG) | (seen->flags & ~1u) | (seen->pins & ~31u) | seen->blink >> 31) != 0;
 }
 
 /* The number of a call that names a driver; some value of it gives 6 or not. */
@@ -170,6 +170,13 @@ static uint8_t read_gpio(const max6954_registers *r)
     return groups ? (uint8_t)(data | r->keys.interrupt << 4) : data;
 }
 
+/* The shift word that a word leaves with its data, and its answer mark. */
+static inline void leave(max6954_device *d, uint16_t word, uint8_t data)
+{
+    d->shift = (uint16_t)((word & 0xFF00) | data);
+    d->answer_mark = (uint8_t)(word >> 15);
+}
+
 static __attribute__((noinline, cold)) void take_special(max6954_device *d, uint16_t word, int kind)
 {
     uint8_t data = (uint8_t)word;
@@ -177,7 +184,7 @@ static __attribute__((noinline, cold)) void take_special(max6954_device *d, uint
         write_config(&d->registers, data);
     else
         data = kind == READ_CONFIG ? read_config(&d->registers) : read_gpio(&d->registers);
-    d->shift = (uint16_t)((word & 0xFF00) | data);
+    leave(d, word, data);
 }
 
 static inline void take(max6954_device *d, uint16_t word)
@@ -192,7 +199,7 @@ static inline void take(max6954_device *d, uint16_t word)
     bytes[e.first] = (uint8_t)((first & e.keep) | (data & e.put));
     bytes[e.second] = (uint8_t)((second & e.keep) | (data & e.put));
     d->registers.keys.interrupt &= e.interrupt;
-    d->shift = (uint16_t)((word & 0xFF00) | (first & e.get) | (data & e.echo));
+    leave(d, word, (uint8_t)((first & e.get) | (data & e.echo)));
 }
 
 /* Copies at most 32 bytes. */
@@ -440,6 +447,14 @@ max6954_interrupt_answer tuned_interrupt(const max6954_device *chain, size_t n, 
     max6954_interrupt_answer out = { number_of(chain, n, driver, 0), 0 };
     if (out.number == 0)
         out.raised = chain[driver - 1].registers.keys.interrupt;
+    return out;
+}
+
+max6954_mark_answer tuned_answer_mark(const max6954_device *chain, size_t n, size_t driver)
+{
+    max6954_mark_answer out = { number_of(chain, n, driver, 0), 0 };
+    if (out.number == 0)
+        out.mark = chain[driver - 1].answer_mark;
     return out;
 }
 

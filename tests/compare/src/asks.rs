@@ -6,7 +6,7 @@ use crate::words;
 use second_double::Call;
 
 /// The kinds of calls, in the order of `kind_of`.
-pub const KINDS: [&str; 9] = [
+pub const KINDS: [&str; 10] = [
     "access",
     "scan",
     "pins",
@@ -16,6 +16,7 @@ pub const KINDS: [&str; 9] = [
     "brightness",
     "shown",
     "interrupt",
+    "answer mark",
 ];
 
 /// The place of a call's kind among `KINDS`.
@@ -30,6 +31,7 @@ pub fn kind_of(call: &Call) -> usize {
         Call::Brightness { .. } => 6,
         Call::Shown { .. } => 7,
         Call::Interrupt { .. } => 8,
+        Call::AnswerMark { .. } => 9,
     }
 }
 
@@ -44,7 +46,8 @@ pub fn driver_of(call: &Call) -> Option<usize> {
         | Call::Segments { driver, .. }
         | Call::Brightness { driver, .. }
         | Call::Shown { driver }
-        | Call::Interrupt { driver } => Some(*driver),
+        | Call::Interrupt { driver }
+        | Call::AnswerMark { driver } => Some(*driver),
     }
 }
 
@@ -71,8 +74,16 @@ pub fn call(random: &mut Random, n: usize) -> Call {
             driver,
             digit: within(random, 16, usize::MAX),
         },
-        _ if random.one_in(2) => Call::Shown { driver },
-        _ => Call::Interrupt { driver },
+        _ => flag(random, driver),
+    }
+}
+
+/// A question with a driver alone.
+fn flag(random: &mut Random, driver: usize) -> Call {
+    match random.below(3) {
+        0 => Call::Shown { driver },
+        1 => Call::Interrupt { driver },
+        _ => Call::AnswerMark { driver },
     }
 }
 
@@ -185,7 +196,7 @@ pub fn spelled(call: &Call) -> String {
             hex_words(font16)
         ),
         Call::Brightness { digit, .. } => format!("digit={digit}"),
-        Call::Shown { .. } | Call::Interrupt { .. } => String::new(),
+        Call::Shown { .. } | Call::Interrupt { .. } | Call::AnswerMark { .. } => String::new(),
     };
     let driver = driver_of(call).map_or(String::new(), |driver| format!("driver={driver} "));
     format!("{} {driver}{rest}", KINDS[kind_of(call)])

@@ -37,6 +37,7 @@ pub fn device(record: &Record) -> Device {
         },
         shift: record.shift,
         fitted: record.fitted,
+        answer_mark: record.answer_mark,
     }
 }
 
@@ -81,6 +82,7 @@ pub fn record(device: &Device) -> Record {
         blink: registers.blink,
         shift: device.shift,
         fitted: device.fitted,
+        answer_mark: device.answer_mark,
     }
 }
 
@@ -127,6 +129,7 @@ fn fields(record: &Record) -> Vec<String> {
     add("blink", &record.blink.to_be_bytes());
     add("shift", &record.shift.to_be_bytes());
     add("fitted", &[record.fitted]);
+    add("answer_mark", &[record.answer_mark]);
     fields
 }
 

@@ -38,6 +38,7 @@ extern "C" {
     fn max6954_brightness(chain: *const Device, n: usize, driver: usize, digit: usize) -> One;
     fn max6954_shown(chain: *const Device, n: usize, driver: usize) -> One;
     fn max6954_interrupt(chain: *const Device, n: usize, driver: usize) -> One;
+    fn max6954_answer_mark(chain: *const Device, n: usize, driver: usize) -> One;
     fn max6954_plane_number(
         chain: *const Device,
         n: usize,
@@ -101,6 +102,11 @@ pub fn shown(chain: &[Device], driver: usize) -> Reply {
 pub fn interrupt(chain: &[Device], driver: usize) -> Reply {
     // SAFETY: the pointer has the length of its slice, and nothing is written.
     unsafe { max6954_interrupt(chain.as_ptr(), chain.len(), driver) }.into()
+}
+
+pub fn answer_mark(chain: &[Device], driver: usize) -> Reply {
+    // SAFETY: the pointer has the length of its slice, and nothing is written.
+    unsafe { max6954_answer_mark(chain.as_ptr(), chain.len(), driver) }.into()
 }
 
 pub fn plane_number(

@@ -49,6 +49,10 @@ fn question(chain: &[Device], call: &Call) -> Reply {
             ratchetelm::interrupt(chain, *driver).map(|raised| vec![u8::from(raised)]),
             exported::interrupt(chain, *driver),
         ),
+        Call::AnswerMark { driver } => agreed(
+            ratchetelm::answer_mark(chain, *driver).map(|mark| vec![u8::from(mark)]),
+            exported::answer_mark(chain, *driver),
+        ),
         _ => unreachable!("the other calls change the chain"),
     }
 }

@@ -54,6 +54,7 @@ fn sound(random: &mut Random) -> Record {
         blink: random.pick(&COUNTS),
         shift: random.number() as u16,
         fitted: random.byte(),
+        answer_mark: random.byte() % 2,
     }
 }
 
@@ -91,7 +92,7 @@ pub fn spoil(random: &mut Random, row: &mut [Record]) {
         return;
     }
     let record = &mut row[random.below(row.len())];
-    match random.below(11) {
+    match random.below(12) {
         0 => record.global = byte_above(random, 15),
         1 => record.limit = byte_above(random, 7),
         2 => record.gpio = byte_above(random, 31),
@@ -101,7 +102,8 @@ pub fn spoil(random: &mut Random, row: &mut [Record]) {
         6 => record.b = byte_above(random, 1),
         7 => record.s = byte_above(random, 1),
         8 => record.interrupt = byte_above(random, 1),
-        9 => record.pins = above(random, 31, u32::MAX),
+        9 => record.answer_mark = byte_above(random, 1),
+        10 => record.pins = above(random, 31, u32::MAX),
         _ => record.blink = above(random, 3_999_999, u32::MAX),
     }
 }

@@ -19,9 +19,9 @@ const BY_HAND: usize = 0;
 const BY_CHANCE: usize = 1;
 const LINES: usize = 2;
 
-/// The lines that scripts print, by how they begin.
-const KINDS: [&str; 10] = [
-    "chain", "A", "S", "R 1", "R 2", "R 3", "R 4", "R 6", "R 8", "R 9",
+/// The lines that scripts print, by how they begin; shows by their mark too.
+const KINDS: [&str; 11] = [
+    "chain", "A", "S f", "S s", "R 1", "R 2", "R 3", "R 4", "R 6", "R 8", "R 9",
 ];
 
 /// The part, the panel program, and how many lines of each kind were printed.
@@ -65,9 +65,7 @@ impl Trial {
         }
         let [ours, second] = results(&self.panel, &pieces);
         for line in String::from_utf8_lossy(&second).lines() {
-            let whole = line.starts_with('R');
-            let kind = line.split(' ').next().filter(|_| !whole).unwrap_or(line);
-            *self.printed.entry(kind.to_string()).or_default() += 1;
+            *self.printed.entry(kind(line)).or_default() += 1;
         }
         let difference = (ours != second).then(|| told(&self.panel, pieces));
         self.part.count(check, case, difference);
@@ -89,6 +87,16 @@ impl Trial {
         self.part.end(&format!(
             "{by_hand} by hand, {by_chance} random; lines{lines}"
         ));
+    }
+}
+
+/// The kind of a line: a refusal whole, a show by its mark, another by its first word.
+fn kind(line: &str) -> String {
+    let words: Vec<&str> = line.split(' ').collect();
+    match words[..] {
+        ["S", _, mark] => format!("S {mark}"),
+        ["R", _] => line.to_string(),
+        _ => words[0].to_string(),
     }
 }
 

@@ -64,5 +64,6 @@ pub fn new_shift(word: u16, p0: u8, p1: u8) -> u16
 pub fn new_mark(word: u16) -> u8
     ensures { λ r. ⌜ r ≡ newMark word ⌝ }
 {
-    if word / 4096 < 8 { 0 } else { 1 }
+    let row = word / 4096;
+    if row < 8 { 0 } else { 1 }
 }

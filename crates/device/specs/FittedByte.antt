@@ -1,4 +1,4 @@
--- Believed: document 01, "Segments and brightness": no call changes the fitted byte (255 at power-up).
+-- Believed: document 01, "Segments and brightness": no call changes the fitted byte (255 at power-up), since no step of a driver does.
 -- Assumes nothing.
 use Prim.Native.Nat.{ℕ}
 use mathlib.Core.Path.{_≡_}

@@ -39,6 +39,9 @@ const HEXADECIMAL: [&str; 16] = [
     "abcefg", "cdefg", "adef", "bcdeg", "adefg", "aefg",
 ];
 
+/// D6 to D0 of a hex digit that is dark (decode-mode section of 000).
+const BLANK: u8 = 0b001_0000;
+
 /// What a cathode drives.
 #[derive(Clone, Copy, Debug, PartialEq, Eq)]
 enum Display {
@@ -140,10 +143,12 @@ fn pair_lit(record: &Record, cathode: usize, name: &str) -> bool {
     }
 }
 
-/// Hexadecimal font: D7 for dp, D6 to D4 ignored.
+/// Hexadecimal font: D7 for dp; a blank digit lights none of a to g, others ignore D6 to D4.
 fn hexadecimal_lit(byte: u8, segment: &str) -> bool {
     if segment == "dp" {
         bit(byte, 7)
+    } else if byte % 128 == BLANK {
+        false
     } else {
         HEXADECIMAL[usize::from(byte % 16)].contains(segment)
     }

@@ -1,4 +1,4 @@
-//! Bench examples 1 to 12.
+//! Bench examples 1 to 12, and byte 10 in hex mode.
 
 use second_double::{access, call, Call, Record};
 
@@ -93,6 +93,15 @@ fn example_7() {
     record.s = 1;
     record.p0[0] = 0x8A;
     let expected = [1, 0, 2, 4, 2, 2, 3, 2, 2, 2, 2, 2, 2, 2, 2, 2, 2, 3, 3];
+    assert_eq!(pins(&record, 0, 0), expected);
+}
+
+#[test]
+fn byte_10_in_hex_mode() {
+    let mut record = Record::power_up();
+    record.s = 1;
+    record.p0[0] = 0x10;
+    let expected = [1, 0, 3, 4, 3, 3, 3, 3, 3, 3, 3, 2, 2, 2, 2, 2, 2, 3, 3];
     assert_eq!(pins(&record, 0, 0), expected);
 }
 

@@ -1,8 +1,9 @@
--- Believed: document 01, "Bench examples", those of the display, and more of "Segments and brightness":
--- what the definitions give beside what the document says.
+-- Believed: document 01, "Bench examples", those of the display, and more of "Segments and brightness"; document 02, request 2:
+-- what the definitions give beside what the documents say.
 -- Assumes nothing.
 use Prim.Native.Nat.{ℕ, _+_}
 use mathlib.Core.List.{List, [], _∷_, map}
+use lib.ListN.{replicate}
 use Rattle.ground.specs.Lists.{Agree}
 use Rattle.device.specs.PowerUp.{powerUp}
 use Rattle.device.specs.Record.{withFitted}
@@ -10,7 +11,7 @@ use Rattle.device.specs.Taken.{taken}
 use Rattle.device.specs.Table15.{afterWords}
 use Rattle.device.specs.declared.Device.{Device}
 use Rattle.ground.specs.Choice.{if}
-use Rattle.wiring.specs.Segments.{Segment, a1, a2, b, dp, 1a, 1b, 1c, 1d, 1e, 1f, 1g, 1dp}
+use Rattle.wiring.specs.Segments.{Segment, a1, a2, b, dp, 1a, 1b, 1c, 1d, 1e, 1f, 1g, 1dp, 2a, 2b, 2c, 2d, 2e, 2f}
 use Rattle.wiring.specs.Wiring.{Wire, cathode, notDriven, carries, wireAt}
 use Rattle.brightness.specs.Brightness.{brightnessOf}
 use Rattle.display.specs.Cathode.{displayOf}
@@ -29,6 +30,14 @@ litOf x d segments = map (λ s. if (lit x d [] [] s) 1 0) segments
 abbrev pub pinsAtOwn : Device → List ℕ → List ℕ
 pinsAtOwn x ds = map (λ d. pinCode (pinAt x d [] [] d)) ds
 
+-- dp a b c d e f g of digit d of a pair
+abbrev pub firstDigit : List Segment
+firstDigit = 1dp ∷ 1a ∷ 1b ∷ 1c ∷ 1d ∷ 1e ∷ 1f ∷ 1g ∷ []
+
+-- a driver in normal operation, in hex mode from power-up, with a byte at digit 0
+abbrev pub hexDigit : ℕ → Device
+hexDigit v = afterWords powerUp (0x0401 ∷ (0x2000 + v) ∷ [])
+
 -- "Bench examples"
 abbrev pub rows : List (List ℕ × List ℕ)
 rows =
@@ -44,6 +53,14 @@ rows =
       litOf (taken (taken powerUp 0x0401) 0x208A) 0 (1dp ∷ 1a ∷ 1b ∷ 1c ∷ 1e ∷ 1f ∷ 1g ∷ 1d ∷ []),
       1 ∷ 1 ∷ 1 ∷ 1 ∷ 1 ∷ 1 ∷ 1 ∷ 0 ∷ [],
     )
+    -- document 02, request 2: hex mode, byte 10 at digit 0: none of dp a b c d e f g lit; 90: dp alone; 20, and 30, 50 and 70, still show 0
+    ∷ (pinsOf (hexDigit 0x10) 0 (7 ∷ 2 ∷ 4 ∷ 5 ∷ 6 ∷ 8 ∷ 9 ∷ 10 ∷ []), map pinCode (replicate 8 Unlit))
+    ∷ (litOf (hexDigit 0x10) 0 firstDigit, 0 ∷ 0 ∷ 0 ∷ 0 ∷ 0 ∷ 0 ∷ 0 ∷ 0 ∷ [])
+    ∷ (litOf (hexDigit 0x90) 0 firstDigit, 1 ∷ 0 ∷ 0 ∷ 0 ∷ 0 ∷ 0 ∷ 0 ∷ 0 ∷ [])
+    ∷ (litOf (hexDigit 0x20) 0 firstDigit, 0 ∷ 1 ∷ 1 ∷ 1 ∷ 1 ∷ 1 ∷ 1 ∷ 0 ∷ [])
+    ∷ (litOf (hexDigit 0x30) 0 firstDigit, 0 ∷ 1 ∷ 1 ∷ 1 ∷ 1 ∷ 1 ∷ 1 ∷ 0 ∷ [])
+    ∷ (litOf (hexDigit 0x50) 0 firstDigit, 0 ∷ 1 ∷ 1 ∷ 1 ∷ 1 ∷ 1 ∷ 1 ∷ 0 ∷ [])
+    ∷ (litOf (hexDigit 0x70) 0 firstDigit, 0 ∷ 1 ∷ 1 ∷ 1 ∷ 1 ∷ 1 ∷ 1 ∷ 0 ∷ [])
     ∷ []
 
 -- what pins are to a cathode
@@ -69,8 +86,12 @@ WireExamples = Agree wireRows
 -- "Segments and brightness", beside the bench examples
 abbrev pub segmentRows : List (List ℕ × List ℕ)
 segmentRows =
+    -- request 2: the other digit of a pair is blanked by its own byte; direct control has c for 10, and test lights all
+    (litOf (afterWords powerUp (0x0401 ∷ 0x2001 ∷ 0x2810 ∷ [])) 0 (1b ∷ 1c ∷ 2a ∷ 2b ∷ 2c ∷ 2d ∷ 2e ∷ 2f ∷ []), 1 ∷ 1 ∷ 0 ∷ 0 ∷ 0 ∷ 0 ∷ 0 ∷ 0 ∷ [])
+    ∷ (litOf (afterWords powerUp (0x0401 ∷ 0x0100 ∷ 0x2010 ∷ [])) 0 firstDigit, 0 ∷ 0 ∷ 0 ∷ 1 ∷ 0 ∷ 0 ∷ 0 ∷ 0 ∷ [])
+    ∷ (litOf (afterWords powerUp (0x0401 ∷ 0x0701 ∷ 0x2010 ∷ [])) 0 firstDigit, 1 ∷ 1 ∷ 1 ∷ 1 ∷ 1 ∷ 1 ∷ 1 ∷ 1 ∷ [])
     -- in shutdown, and above a scan limit of 3, a cathode is dark; in test none is
-    (pinsAtOwn powerUp (0 ∷ 7 ∷ []), map pinCode (NotDriven ∷ NotDriven ∷ []))
+    ∷ (pinsAtOwn powerUp (0 ∷ 7 ∷ []), map pinCode (NotDriven ∷ NotDriven ∷ []))
     ∷ (pinsAtOwn (afterWords powerUp (0x0401 ∷ 0x0303 ∷ [])) (0 ∷ 3 ∷ 4 ∷ 7 ∷ []), map pinCode (Cathode ∷ Cathode ∷ NotDriven ∷ NotDriven ∷ []))
     ∷ (pinsAtOwn (afterWords powerUp (0x0701 ∷ 0x0303 ∷ [])) (0 ∷ 3 ∷ 4 ∷ 7 ∷ []), map pinCode (Cathode ∷ Cathode ∷ Cathode ∷ Cathode ∷ []))
     -- test lights every segment of a 7-segment pair, of which O3 of cathode 0 carries none; 7 sixteenths, whatever the nibbles

@@ -4,7 +4,7 @@ use Prim.Native.Nat.{ℕ, _+_, _%_, _<_}
 use native.Mathlib.Omega.{arith}
 use mathlib.Core.Bool.{Bool, true, false, Bool·beq}
 use mathlib.Core.Path.{_≡_, refl}
-use lib.Dec.{eqb, ltb}
+use lib.Dec.{eqb, ltb, lit<}
 use lib.ListN.{getD}
 use borrow.Author.Tests.{eqb-true, ltb-true}
 use Rattle.ground.specs.Choice.{if, bit}
@@ -12,7 +12,7 @@ use Rattle.ground.proofs.Below.{all, all-at}
 use Rattle.ground.proofs.Truth.{same}
 use Rattle.wiring.specs.PackedRows.{byteOf, packed}
 use Rattle.glyphs.specs.Glyphs.{sevenLit}
-use Rattle.glyphs.specs.Masks.{hexFont, sevenSegments}
+use Rattle.glyphs.specs.Masks.{hexFont, hexSegments, sevenSegments}
 
 -- the word of the font that has character k, and in it the character's byte
 abbrev pub word : ℕ → ℕ
@@ -22,12 +22,19 @@ pub hex-byte : (k w : ℕ) → k < 16 → w ≡ word k → byteOf w (k % 8) ≡ 
 hex-byte k w h e = rw e (eqb-true _ _ (all-at (λ c. eqb (byteOf (word c) (c % 8)) (getD hexFont c 0)) 16 refl k h))
 
 -- a character's segments a to g are seven bits
-pub hex-small : (c : ℕ) → c < 16 → getD hexFont c 0 < 128
+hex-small : (c : ℕ) → c < 16 → getD hexFont c 0 < 128
 hex-small c h = ltb-true _ _ (all-at (λ k. ltb (getD hexFont k 0) 128) 16 refl c h)
+
+pub hex-segments-small : (v : ℕ) → hexSegments v < 128
+hex-segments-small v = go (eqb (v % 128) 16)
+  where
+    go : (b : Bool) → if b 0 (getD hexFont (v % 16) 0) < 128
+    go true = lit< tt
+    go false = hex-small (v % 16) (omega arith)
 
 -- the segments of a 7-segment digit are eight bits
 pub seven-small : (hex : Bool) (v : ℕ) → v < 256 → sevenSegments hex v < 256
-seven-small true v h = omega (arith, hex-small (v % 16) (omega arith))
+seven-small true v h = omega (arith, hex-segments-small v)
 seven-small false v h = h
 
 abbrev right : ℕ → ℕ → Bool

@@ -1,7 +1,7 @@
--- Believed: document 01, "Segments and brightness": the segments that a digit's byte lights.
+-- Believed: document 01, "Segments and brightness", and document 02, request 2: the segments that a digit's byte lights.
 -- Assumes nothing.
 use Prim.Native.Nat.{ℕ, _-_, _%_}
-use mathlib.Core.Bool.{Bool, false}
+use mathlib.Core.Bool.{Bool, false, not, _&&_}
 use mathlib.Core.List.{List, [], _∷_}
 use lib.Dec.{eqb}
 use lib.ListN.{getD}
@@ -33,10 +33,14 @@ table11 =
 abbrev pub hexOn : ℕ → ℕ → Bool
 hexOn c n = eqb (getD (getD table11 c []) (6 - n) 0) 1
 
+-- request 2: a byte whose low seven bits are exactly 0010000 lights none of a to g of a hex digit
+abbrev pub blank : ℕ → Bool
+blank v = eqb (v % 128) 0b0010000
+
 -- segment Dn of a 7-segment digit, D7 to D0 being dp a b c d e f g: a clear decode bit gives the byte itself; a set one uses the hex font, D7
--- for dp, D6 to D4 ignored
+-- for dp, D6 to D4 ignored in a byte that isn't blank
 abbrev pub sevenLit : Bool → ℕ → ℕ → Bool
-sevenLit hex v n = if hex (if (eqb n 7) (bit 7 v) (hexOn (v % 16) n)) (bit n v)
+sevenLit hex v n = if hex (if (eqb n 7) (bit 7 v) (not (blank v) && hexOn (v % 16) n)) (bit n v)
 
 -- what a digit's byte v lights, under the table of its display: D6 to D0 pick the glyph word, D7 is dp
 abbrev pub lightOn : Bool → List ℕ → ℕ → Light → Bool

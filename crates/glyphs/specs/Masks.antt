@@ -4,6 +4,7 @@ use Prim.Native.Nat.{ℕ, _+_, _*_, _/_, _%_, _<_}
 use mathlib.Core.Bool.{Bool}
 use mathlib.Core.List.{List, [], _∷_}
 use mathlib.Core.Path.{_≡_}
+use lib.Dec.{eqb}
 use lib.ListN.{getD}
 use Rattle.ground.specs.Choice.{if, bit}
 use Rattle.wiring.specs.Segments.{none, listOf}
@@ -18,9 +19,13 @@ abbrev pub hexFont : List ℕ
 hexFont =
     0x7E ∷ 0x30 ∷ 0x6D ∷ 0x79 ∷ 0x33 ∷ 0x5B ∷ 0x5F ∷ 0x70 ∷ 0x7F ∷ 0x7B ∷ 0x77 ∷ 0x1F ∷ 0x4E ∷ 0x3D ∷ 0x4F ∷ 0x47 ∷ []
 
+-- a hex digit: its segments a to g
+abbrev pub hexSegments : ℕ → ℕ
+hexSegments v = if (eqb (v % 128) 16) 0 (getD hexFont (v % 16) 0)
+
 -- a 7-segment digit: its eight segments
 abbrev pub sevenSegments : Bool → ℕ → ℕ
-sevenSegments hex v = if hex (v / 128 * 128 + getD hexFont (v % 16) 0) v
+sevenSegments hex v = if hex (v / 128 * 128 + hexSegments v) v
 
 -- a 7-segment pair, v digit d's byte and a digit da's: digit da's eight above digit d's
 abbrev pub pairSegments : Bool → ℕ → ℕ → ℕ

@@ -2,7 +2,7 @@
 ghost use mathlib.Core.Path.{_≡_};
 ghost use Prim.Native.Nat.{_<_};
 ghost use lib.ListN.{getD};
-ghost use Rattle.glyphs.specs.Masks.{hexFont, sevenSegments, pairSegments, glyphSegments, SegmentBySegment};
+ghost use Rattle.glyphs.specs.Masks.{hexFont, hexSegments, sevenSegments, pairSegments, glyphSegments, SegmentBySegment};
 
 // Table 11: a to g of a character are bits 6 to 0 of its byte.
 const HEX_LOW: u64 = 0x7E // 0: a b c d e f
@@ -32,13 +32,24 @@ fn hex_font(k: u8) -> u8
     ((word >> (8 * (k % 8))) % 256) as u8
 }
 
+// The segments a to g of a hex digit as bits 6 to 0: none where D6 to D0 are 0010000.
+fn hex_segments(byte: u8) -> u8
+    ensures { λ r. ⌜ r ≡ hexSegments byte ⌝ }
+{
+    if byte % 128 == 16 {
+        0
+    } else {
+        hex_font(byte % 16)
+    }
+}
+
 // The segments dp a b c d e f g of a 7-segment digit as bits 7 to 0, in the hex font or as its byte gives them.
 fn seven_segments(hex: bool, byte: u8) -> u32
     ensures { λ r. ⌜ r ≡ sevenSegments hex byte ⌝ }
     ensures { λ r. ⌜ r < 256 ⌝ }
 {
     if hex {
-        (byte / 128 * 128) as u32 + hex_font(byte % 16) as u32
+        (byte / 128 * 128) as u32 + hex_segments(byte) as u32
     } else {
         byte as u32
     }

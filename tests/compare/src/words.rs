@@ -43,7 +43,7 @@ fn address(random: &mut Random) -> u8 {
     }
 }
 
-/// Data that seldom hides the rest by the scan limit, shutdown, clearing or display test.
+/// Data that seldom hides the rest by the scan limit, shutdown, clearing or display test; digits often hold what is near a blank.
 fn data(random: &mut Random, address: u8) -> u8 {
     let byte = random.byte();
     match address {
@@ -51,6 +51,7 @@ fn data(random: &mut Random, address: u8) -> u8 {
         0x03 => byte | 0x07,
         0x04 => byte & 0xCF | 0x01,
         0x07 => byte & 0xFE,
+        0x20..=0x6F if random.one_in(4) => byte & 0xF0,
         _ => byte,
     }
 }

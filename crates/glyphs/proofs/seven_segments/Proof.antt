@@ -1,14 +1,13 @@
 -- `glyphs::seven_segments` meets its contract. Assumes nothing.
 use native.Mathlib.Omega.{arith}
 use mathlib.Core.Path.{refl}
-use Prim.Native.Nat.{_%_}
-use Rattle.glyphs.proofs.Hex.{hex-small}
+use Rattle.glyphs.proofs.Hex.{hex-segments-small}
 use borrow.Author.Needs.{needs}
 use Rattle.glyphs.proofs.seven_segments.Statement.{statement}
 use Rattle.glyphs.proofs.seven_segments.Tie as tie
 
 returns : tie.Need-returns
-returns c = rw (c .before .if1 .taken, c .hex-font .ensures) (refl, omega (arith, hex-small (c .before .before .args .byte % 16) (omega arith)))
+returns c = rw (c .before .if1 .taken, c .hex-segments .ensures) (refl, omega (arith, hex-segments-small (c .before .before .args .byte)))
 
 pub seven-segments-spec : {M : Type 1} → statement M
 seven-segments-spec =

@@ -7,6 +7,9 @@ use crate::wire::bytes_needed;
 /// Number 9 is given to a longer script.
 const LONGEST: usize = 65_536;
 
+/// The chain of a script that doesn't begin with a chain record, or whose first record gives 8.
+const ASSUMED_CHAIN: usize = 4;
+
 /// One record of a script: its kind, its body and the bytes after it.
 type Entry<'a> = (u8, &'a [u8], &'a [u8]);
 
@@ -16,7 +19,7 @@ pub fn run(script: &[u8]) -> Vec<u8> {
         return b"R 9\n".to_vec();
     }
     let mut rest = script;
-    let mut n = 1;
+    let mut n = ASSUMED_CHAIN;
     if let Some((1, body, after)) = first_entry(script) {
         n = usize::from(body[0]);
         rest = after;

@@ -28,20 +28,21 @@ fn the_example_script() {
 fn the_first_line_and_the_stops() {
     let show = entry(6, &[1, 0]);
     let cases = [
-        (vec![], "chain 1\n"),
+        (vec![], "chain 4\n"),
         (vec![entry(1, &[0]), show.clone()], "R 1\n"),
         (vec![entry(1, &[17])], "R 1\n"),
-        (vec![entry(1, &[2, 2]), show.clone()], "chain 1\nR 8\n"),
+        (vec![entry(1, &[2, 2]), show.clone()], "chain 4\nR 8\n"),
+        (vec![entry(1, &[1])[..5].to_vec()], "chain 4\nR 8\n"),
         (
             vec![entry(1, &[16]), entry(1, &[16]), show.clone()],
             "chain 16\nR 8\n",
         ),
-        (vec![entry(3, &[1; 6])], "chain 1\nR 8\n"),
-        (vec![entry(2, &[0]), show.clone()], "chain 1\nR 8\n"),
-        (vec![entry(7, &[]), show.clone()], "chain 1\nR 8\n"),
-        (vec![show[..6].to_vec()], "chain 1\nR 8\n"),
-        (vec![vec![0x5A, 0xC4], show], "chain 1\nR 8\n"),
-        (vec![vec![0; 65_536]], "chain 1\nR 8\n"),
+        (vec![entry(3, &[1; 6])], "chain 4\nR 8\n"),
+        (vec![entry(2, &[0]), show.clone()], "chain 4\nR 8\n"),
+        (vec![entry(7, &[]), show.clone()], "chain 4\nR 8\n"),
+        (vec![show[..6].to_vec()], "chain 4\nR 8\n"),
+        (vec![vec![0x5A, 0xC4], show], "chain 4\nR 8\n"),
+        (vec![vec![0; 65_536]], "chain 4\nR 8\n"),
         (vec![vec![0; 65_537]], "R 9\n"),
     ];
     for (script, lines) in cases {
@@ -50,8 +51,26 @@ fn the_first_line_and_the_stops() {
 }
 
 #[test]
+fn without_a_chain_record_there_are_4_drivers() {
+    let words = [0x04, 0x01, 0x00, 0x00, 0x00, 0x00, 0x80, 0x00];
+    let script = [
+        entry(2, &[&[0x00, 0x40], &words[..]].concat()),
+        entry(6, &[4, 0]),
+        entry(6, &[1, 0]),
+        entry(6, &[5, 0]),
+        entry(2, &[&[0x00, 0x40], &[0; 8][..]].concat()),
+        entry(1, &[1]),
+    ];
+    let (zeros, dark) = ("C-1-111011011111100", "-".repeat(19));
+    let shown = format!("S {zeros} s\nS {dark} f\nR 2\n");
+    let lines = format!("chain 4\nA 0000000000000000\n{shown}A 0401000000008000\nR 8\n");
+    assert_eq!(printed(&script), lines);
+}
+
+#[test]
 fn every_kind_prints_its_line() {
     let script = [
+        entry(1, &[1]),
         entry(6, &[1, 0]),
         entry(2, &[0x00, 0x10, 0x04, 0x0D, 0xFF]),
         entry(6, &[1, 0]),
@@ -71,6 +90,7 @@ fn every_kind_prints_its_line() {
 #[test]
 fn show_uses_the_test_table() {
     let script = [
+        entry(1, &[1]),
         entry(2, &[0x00, 0x10, 0x04, 0x01]),
         entry(2, &[0x00, 0x10, 0x0C, 0x01]),
         entry(2, &[0x00, 0x10, 0x20, 0xC1]),
@@ -83,6 +103,7 @@ fn show_uses_the_test_table() {
 #[test]
 fn kinds_3_to_5_reach_the_driver() {
     let mut script = vec![
+        entry(1, &[1]),
         entry(2, &[0x00, 0x10, 0x06, 0x7F]),
         entry(3, &[1, 0x11, 0x22, 0x33, 0x44]),
         entry(4, &[1, 31]),

@@ -7,5 +7,8 @@ use Rattle.brightness.proofs.digit_sixteenths.Tie as tie
 returns-2 : tie.Need-returns-2
 returns-2 c = simp (c .before .nibble .ensures, c .sixteenths .ensures) (search tests)
 
+returns : tie.Need-returns
+returns c = search tests
+
 pub digit-sixteenths-spec : {M : Type 1} → statement M
-digit-sixteenths-spec = tie.close (tie.spec (λ c κs. search needs) (λ c κs. search needs) (λ c. search tests) returns-2)
+digit-sixteenths-spec = tie.close (tie.spec (λ c κs. search needs) (λ c κs. search needs) returns returns-2)

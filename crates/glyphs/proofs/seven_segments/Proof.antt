@@ -9,7 +9,10 @@ use Rattle.glyphs.proofs.seven_segments.Tie as tie
 returns : tie.Need-returns
 returns c = rw (c .before .if1 .taken, c .hex-segments .ensures) (refl, omega (arith, hex-segments-small (c .before .before .args .byte)))
 
+returns-2 : tie.Need-returns-2
+returns-2 c = search needs
+
 pub seven-segments-spec : {M : Type 1} → statement M
 seven-segments-spec =
     tie.close
-    (tie.spec (λ c. search needs) (λ c. search needs) (λ c κs. search needs) (λ c. search needs) (λ c. search needs) returns (λ c. search needs))
+    (tie.spec (λ c. search needs) (λ c. search needs) (λ c κs. search needs) (λ c. search needs) (λ c. search needs) returns returns-2)

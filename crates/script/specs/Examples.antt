@@ -1,5 +1,5 @@
--- Believed: document 01, "Script program": its example, a script of every other kind, and the first line in each of its cases; document 02, request 1: the
--- mark on a show's line; beside what the definitions give.
+-- Believed: document 01, "Script program": its example, a script of every other kind, and the first line in each of its cases; document 02, requests
+-- 1 and 7: the mark on a show's line, the assumed chain; beside what the definitions give.
 -- Assumes nothing.
 use Prim.Native.Nat.{ℕ}
 use mathlib.Core.List.{List, [], _∷_, _++_, map}
@@ -33,7 +33,8 @@ rows =
     -- every other kind: digit 0 shows A. in plane P0 and b in plane P1; the scan, the pin levels and the clocks, of which 2,000,000 change the phase,
     -- print nothing: `chain 1`, `A 0000`, `A 0401`, `A 208A`, `A 400B`, `S C-1-110111111111100 s`, `S C-0-011011111111100 s`, `R 2`
     ∷ (
-      accessRecord 0x04 0x01
+      chainRecord 1
+          ++ accessRecord 0x04 0x01
           ++ accessRecord 0x20 0x8A
           ++ accessRecord 0x40 0x0B
           ++ accessRecord 0x04 0x09
@@ -52,12 +53,17 @@ rows =
           ++ (0x53 ∷ 0x20 ∷ 0x43 ∷ 0x2D ∷ 0x30 ∷ 0x2D ∷ 0x30 ∷ 0x31 ∷ 0x31 ∷ 0x30 ∷ 0x31 ∷ 0x31 ∷ 0x31 ∷ 0x31 ∷ 0x31 ∷ 0x31 ∷ 0x31 ∷ 0x31 ∷ 0x31 ∷ 0x30 ∷ 0x30 ∷ 0x20 ∷ 0x73 ∷ 0x0A ∷ [])
           ++ (0x52 ∷ 0x20 ∷ 0x32 ∷ 0x0A ∷ []),
     )
-    -- an empty script: `chain 1`
-    ∷ ([], 0x63 ∷ 0x68 ∷ 0x61 ∷ 0x69 ∷ 0x6E ∷ 0x20 ∷ 0x31 ∷ 0x0A ∷ [])
-    -- a first record refused with 8, here cut: `chain 1`, `R 8`
+    -- request 7, an empty script: `chain 4`
+    ∷ ([], 0x63 ∷ 0x68 ∷ 0x61 ∷ 0x69 ∷ 0x6E ∷ 0x20 ∷ 0x34 ∷ 0x0A ∷ [])
+    -- no chain record: `chain 4`, `S ------------------- s` for driver 4, `R 2` for driver 5
+    ∷ (
+      entry 6 (4 ∷ 0 ∷ []) ++ entry 6 (5 ∷ 0 ∷ []),
+      (0x63 ∷ 0x68 ∷ 0x61 ∷ 0x69 ∷ 0x6E ∷ 0x20 ∷ 0x34 ∷ 0x0A ∷ []) ++ (0x53 ∷ 0x20 ∷ []) ++ replicate 19 0x2D ++ (0x20 ∷ 0x73 ∷ 0x0A ∷ []) ++ (0x52 ∷ 0x20 ∷ 0x32 ∷ 0x0A ∷ []),
+    )
+    -- a first record refused with 8, here a cut one of a chain of 1: `chain 4`, `R 8`
     ∷ (
       0x5A ∷ 0xC3 ∷ 1 ∷ 0 ∷ 1 ∷ [],
-      0x63 ∷ 0x68 ∷ 0x61 ∷ 0x69 ∷ 0x6E ∷ 0x20 ∷ 0x31 ∷ 0x0A ∷ 0x52 ∷ 0x20 ∷ 0x38 ∷ 0x0A ∷ [],
+      0x63 ∷ 0x68 ∷ 0x61 ∷ 0x69 ∷ 0x6E ∷ 0x20 ∷ 0x34 ∷ 0x0A ∷ 0x52 ∷ 0x20 ∷ 0x38 ∷ 0x0A ∷ [],
     )
     -- a chain record that isn't first: `chain 16`, `R 8`
     ∷ (

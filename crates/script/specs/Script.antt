@@ -1,4 +1,4 @@
--- Believed: document 01, "Script program": what the panel program prints for a script.
+-- Believed: document 01, "Script program", and document 02, requests 1 and 7: what the panel program prints for a script.
 -- Assumes nothing.
 use Prim.Native.Nat.{ℕ}
 use mathlib.Core.List.{List, [], _∷_, _++_}
@@ -31,9 +31,9 @@ runLines (chain n ∷ is) ds = refusalLine 8
 runLines (call q ∷ is) ds = callLine q ds ++ runLines is (after q ds)
 runLines (malformed ∷ is) ds = refusalLine 8
 
--- the chain of a script that doesn't begin with a chain record, or whose first record is refused with 8
+-- the chain of a script that doesn't begin with a chain record, or whose first record is refused with 8: 4 by document 02, request 7
 abbrev pub assumedChain : ℕ
-assumedChain = 1
+assumedChain = 4
 
 -- the chain's length
 abbrev pub chainIn : List Item → ℕ

@@ -48,7 +48,7 @@ struct Start {
 const LONGEST: usize = 65536;
 
 // The chain of a script that doesn't name one.
-const ASSUMED_CHAIN: usize = 1;
+const ASSUMED_CHAIN: usize = 4;
 
 // A scan, pin levels or clocks: a line where they are refused.
 fn given(done: Done, out: &mut [u8], at: usize) -> Progress

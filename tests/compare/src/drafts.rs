@@ -39,10 +39,10 @@ pub fn fill(random: &mut Random, n: usize, pieces: &mut Pieces, length: usize) {
     pieces.push(record(2, &[&[0x00, 0x10], &spare[..]].concat()));
 }
 
-/// A chain record, or none for a chain of 1. Then mostly every driver leaves shutdown and gets key groups.
+/// A chain record, or none for a chain of 4. Then mostly every driver leaves shutdown and gets key groups.
 fn opening(random: &mut Random) -> (usize, Pieces) {
     let mut pieces = Pieces::new();
-    let mut n = 1;
+    let mut n = 4;
     if !random.one_in(8) {
         let longest = random.pick(&[2, 16, 16]);
         n = 1 + random.below(longest);

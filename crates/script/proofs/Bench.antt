@@ -1,7 +1,7 @@
 -- The document's script, the first line's cases and the other lines, by computation.
 -- Assumes nothing.
 use mathlib.Core.Path.{refl}
-use Rattle.ground.specs.Lists.{tabulate}
+use Rattle.ground.specs.Lists.{tabulate, Agree}
 use Rattle.wire.specs.Bits.{bits, value, unpack, byteAt, pack, wordAt}
 use Rattle.wire.specs.Wire.{string, words, wire, answer, shifted}
 use Rattle.device.specs.Taken.{taken}
@@ -10,7 +10,15 @@ use Rattle.calls.specs.Outcome.{number, after, reply}
 use Rattle.script.specs.Lines.{each}
 use Rattle.script.specs.Format.{itemsAfter}
 use Rattle.script.specs.Script.{runLines, printed}
-use Rattle.script.specs.Examples.{rows, lineRows, scanRows, markRows, Printed, Examples}
+use Rattle.script.specs.Examples.{letterRows, answerRows, rows, lineRows, scanRows, markRows, assumedRows, malformedRows, Printed, Examples}
+
+bench-letters : Agree letterRows
+unfolding each
+bench-letters = refl
+
+bench-answers : Agree answerRows
+unfolding each
+bench-answers = refl
 
 bench : Printed rows
 unfolding tabulate bits value unpack byteAt pack wordAt string words wire answer shifted taken allSound number after reply each itemsAfter runLines printed
@@ -28,5 +36,13 @@ bench-marks : Printed markRows
 unfolding tabulate bits value unpack byteAt pack wordAt string words wire answer shifted taken allSound number after reply each itemsAfter runLines printed
 bench-marks = refl
 
+bench-assumed : Printed assumedRows
+unfolding tabulate bits value unpack byteAt pack wordAt string words wire answer shifted taken allSound number after reply each itemsAfter runLines printed
+bench-assumed = refl
+
+bench-malformed : Printed malformedRows
+unfolding tabulate bits value unpack byteAt pack wordAt string words wire answer shifted taken allSound number after reply each itemsAfter runLines printed
+bench-malformed = refl
+
 pub examples : Examples
-examples = record { bench = bench; lines = bench-lines; scans = bench-scans; marked = bench-marks }
+examples = record { letters = bench-letters; answers = bench-answers; bench = bench; lines = bench-lines; scans = bench-scans; marked = bench-marks; assumed = bench-assumed; malformed = bench-malformed }

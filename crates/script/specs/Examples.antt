@@ -5,6 +5,8 @@ use Prim.Native.Nat.{ℕ}
 use mathlib.Core.List.{List, [], _∷_, _++_, map}
 use mathlib.Core.Path.{_≡_}
 use lib.ListN.{length, replicate}
+use Rattle.ground.specs.Lists.{Agree}
+use Rattle.script.specs.Lines.{each, pinText, answerLine}
 use Rattle.script.specs.Script.{printed}
 
 -- a record of a kind, with a short body
@@ -52,18 +54,6 @@ rows =
           ++ (0x53 ∷ 0x20 ∷ 0x43 ∷ 0x2D ∷ 0x31 ∷ 0x2D ∷ 0x31 ∷ 0x31 ∷ 0x30 ∷ 0x31 ∷ 0x31 ∷ 0x31 ∷ 0x31 ∷ 0x31 ∷ 0x31 ∷ 0x31 ∷ 0x31 ∷ 0x31 ∷ 0x31 ∷ 0x30 ∷ 0x30 ∷ 0x20 ∷ 0x73 ∷ 0x0A ∷ [])
           ++ (0x53 ∷ 0x20 ∷ 0x43 ∷ 0x2D ∷ 0x30 ∷ 0x2D ∷ 0x30 ∷ 0x31 ∷ 0x31 ∷ 0x30 ∷ 0x31 ∷ 0x31 ∷ 0x31 ∷ 0x31 ∷ 0x31 ∷ 0x31 ∷ 0x31 ∷ 0x31 ∷ 0x31 ∷ 0x30 ∷ 0x30 ∷ 0x20 ∷ 0x73 ∷ 0x0A ∷ [])
           ++ (0x52 ∷ 0x20 ∷ 0x32 ∷ 0x0A ∷ []),
-    )
-    -- request 7, an empty script: `chain 4`
-    ∷ ([], 0x63 ∷ 0x68 ∷ 0x61 ∷ 0x69 ∷ 0x6E ∷ 0x20 ∷ 0x34 ∷ 0x0A ∷ [])
-    -- no chain record: `chain 4`, `S ------------------- s` for driver 4, `R 2` for driver 5
-    ∷ (
-      entry 6 (4 ∷ 0 ∷ []) ++ entry 6 (5 ∷ 0 ∷ []),
-      (0x63 ∷ 0x68 ∷ 0x61 ∷ 0x69 ∷ 0x6E ∷ 0x20 ∷ 0x34 ∷ 0x0A ∷ []) ++ (0x53 ∷ 0x20 ∷ []) ++ replicate 19 0x2D ++ (0x20 ∷ 0x73 ∷ 0x0A ∷ []) ++ (0x52 ∷ 0x20 ∷ 0x32 ∷ 0x0A ∷ []),
-    )
-    -- a first record refused with 8, here a cut one of a chain of 1: `chain 4`, `R 8`
-    ∷ (
-      0x5A ∷ 0xC3 ∷ 1 ∷ 0 ∷ 1 ∷ [],
-      0x63 ∷ 0x68 ∷ 0x61 ∷ 0x69 ∷ 0x6E ∷ 0x20 ∷ 0x34 ∷ 0x0A ∷ 0x52 ∷ 0x20 ∷ 0x38 ∷ 0x0A ∷ [],
     )
     -- a chain record that isn't first: `chain 16`, `R 8`
     ∷ (
@@ -129,13 +119,47 @@ markRows =
     )
     ∷ []
 
+-- document 02, request 7: a script that doesn't begin with a chain record
+abbrev pub assumedRows : List (List ℕ × List ℕ)
+assumedRows =
+    -- an empty script: `chain 4`
+    ([], 0x63 ∷ 0x68 ∷ 0x61 ∷ 0x69 ∷ 0x6E ∷ 0x20 ∷ 0x34 ∷ 0x0A ∷ [])
+    -- no chain record: `chain 4`, `S ------------------- s` for driver 4, `R 2` for driver 5
+    ∷ (
+      entry 6 (4 ∷ 0 ∷ []) ++ entry 6 (5 ∷ 0 ∷ []),
+      (0x63 ∷ 0x68 ∷ 0x61 ∷ 0x69 ∷ 0x6E ∷ 0x20 ∷ 0x34 ∷ 0x0A ∷ []) ++ (0x53 ∷ 0x20 ∷ []) ++ replicate 19 0x2D ++ (0x20 ∷ 0x73 ∷ 0x0A ∷ []) ++ (0x52 ∷ 0x20 ∷ 0x32 ∷ 0x0A ∷ []),
+    )
+    ∷ []
+
+-- and one whose first record is refused with 8
+abbrev pub malformedRows : List (List ℕ × List ℕ)
+malformedRows =
+    -- here a cut one of a chain of 1: `chain 4`, `R 8`
+    (
+      0x5A ∷ 0xC3 ∷ 1 ∷ 0 ∷ 1 ∷ [],
+      0x63 ∷ 0x68 ∷ 0x61 ∷ 0x69 ∷ 0x6E ∷ 0x20 ∷ 0x34 ∷ 0x0A ∷ 0x52 ∷ 0x20 ∷ 0x38 ∷ 0x0A ∷ [],
+    )
+    ∷ []
+
+-- the pins' letters by their numbers, not driven, cathode, lit, unlit and none: `-C10-`
+abbrev pub letterRows : List (List ℕ × List ℕ)
+letterRows = (each pinText (0 ∷ 1 ∷ 2 ∷ 3 ∷ 4 ∷ []), 0x2D ∷ 0x43 ∷ 0x31 ∷ 0x30 ∷ 0x2D ∷ []) ∷ []
+
+-- an answer of no byte, `A`, and one of a byte, `A 0F`
+abbrev pub answerRows : List (List ℕ × List ℕ)
+answerRows = (answerLine [], 0x41 ∷ 0x0A ∷ []) ∷ (answerLine (0x0F ∷ []), 0x41 ∷ 0x20 ∷ 0x30 ∷ 0x46 ∷ 0x0A ∷ []) ∷ []
+
 -- the lines printed are those of the row, in every row of a table
 abbrev pub Printed : List (List ℕ × List ℕ) → Type 0
 Printed table = map (λ (row : List ℕ × List ℕ). printed (row .0)) table ≡ map (λ (row : List ℕ × List ℕ). row .1) table
 
 -- what the definitions print is what the document says
 pub record Examples : Type 0 where
+  pub letters : Agree letterRows
+  pub answers : Agree answerRows
   pub bench : Printed rows
   pub lines : Printed lineRows
   pub scans : Printed scanRows
   pub marked : Printed markRows
+  pub assumed : Printed assumedRows
+  pub malformed : Printed malformedRows

@@ -4,8 +4,11 @@ use borrow.Author.Needs.{needs}
 use Rattle.glyphs.proofs.hex_segments.Statement.{statement}
 use Rattle.glyphs.proofs.hex_segments.Tie as tie
 
+returns : tie.Need-returns
+returns c = search tests
+
 returns-2 : tie.Need-returns-2
 returns-2 c = simp (c .hex-font .ensures) (search tests)
 
 pub hex-segments-spec : {M : Type 1} → statement M
-hex-segments-spec = tie.close (tie.spec (λ c κs. search needs) (λ c. search tests) returns-2)
+hex-segments-spec = tie.close (tie.spec (λ c κs. search needs) returns returns-2)

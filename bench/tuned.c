@@ -368,11 +368,11 @@ static inline uint32_t reverse16(uint32_t x)
     return (x >> 8 | x << 8) & 0xFFFF;
 }
 
-/* A byte in the hex font, its point kept: a to g from D6 down. */
+/* A byte in the hex font, its point kept: a to g from D6 down, none for 0010000. */
 static inline uint32_t hex(uint32_t byte)
 {
     static const uint8_t font[16] = { 0x7E, 0x30, 0x6D, 0x79, 0x33, 0x5B, 0x5F, 0x70, 0x7F, 0x7B, 0x77, 0x1F, 0x4E, 0x3D, 0x4F, 0x47 };
-    return (byte & 128) | font[byte & 15];
+    return (byte & 128) | ((byte & 127) == 16 ? 0 : font[byte & 15]);
 }
 
 /* The lit places of a cathode that isn't dark, bit k for place k. */

@@ -1,5 +1,5 @@
 -- Believed: document 01, "Bench examples", 10 and 11 in the table of the display, the others in one, and "Numbers a call
--- may give", 1 to 7, 3 by example 12; document 02, request 1: what the definitions give beside what the documents say.
+-- may give", 1 to 7, 3 by example 12; document 02, requests 1 and 2: what the definitions give beside what the documents say.
 -- Assumes nothing.
 use Prim.Native.Nat.{ℕ, _+_}
 use mathlib.Core.List.{List, [], _∷_, _++_, map}
@@ -74,7 +74,7 @@ chainRows =
     )
     ∷ []
 
--- 1 to 5 and 12 on a chain, 1, 8 and 9 on one driver, 6 and 7 of the display
+-- 1 to 5 and 12 on a chain, 1, 8 and 9 on one driver, 6, 7 and request 2's bytes of the display
 abbrev pub rows : List (List ℕ × List ℕ)
 rows = chainRows ++ driverRows ++ displayRows
 
@@ -179,7 +179,7 @@ markRows =
     ∷ (marks (afterAll (accessOf 32 (0x84 ∷ 0x00 ∷ 0x04 ∷ 0x01 ∷ []) ∷ []) (freshChain 2)), 0 ∷ 1 ∷ [])
     ∷ []
 
--- what the definitions give is what the document says
+-- what the definitions give is what the documents say
 pub record Examples : Type 0 where
   pub bench : Agree rows
   pub wires : WireExamples

@@ -175,7 +175,7 @@ impl Device {
         blink::shown(self.registers.blink, config.b % 2 == 1, config.e % 2 == 1)
     }
 
-    // Whether every field fits its register's width and the blink count is below 4,000,000.
+    // Whether every field fits its register's width, the blink count is below 4,000,000 and the answer mark is 0 or 1.
     pub fn sound(self) -> bool
         ensures { λ r. ⌜ r ≡ soundOf self ⌝ }
     {

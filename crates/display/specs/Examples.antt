@@ -113,7 +113,7 @@ segmentRows =
     )
     ∷ []
 
--- what the definitions give is what the document says
+-- what the definitions give is what the documents say
 pub record Examples : Type 0 where
   pub bench : Agree rows
   pub wires : WireExamples

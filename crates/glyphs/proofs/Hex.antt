@@ -1,4 +1,4 @@
--- The bytes of the hex font are the rows of Table 11, by one computed test.
+-- The segments of a hex digit are those of Table 11, none where it is blank, by one computed test over all bytes.
 -- Assumes nothing.
 use Prim.Native.Nat.{ℕ, _+_, _%_, _<_}
 use native.Mathlib.Omega.{arith}

@@ -19,7 +19,7 @@ abbrev pub hexFont : List ℕ
 hexFont =
     0x7E ∷ 0x30 ∷ 0x6D ∷ 0x79 ∷ 0x33 ∷ 0x5B ∷ 0x5F ∷ 0x70 ∷ 0x7F ∷ 0x7B ∷ 0x77 ∷ 0x1F ∷ 0x4E ∷ 0x3D ∷ 0x4F ∷ 0x47 ∷ []
 
--- a hex digit: its segments a to g
+-- a hex digit: its segments a to g, none where it is blank
 abbrev pub hexSegments : ℕ → ℕ
 hexSegments v = if (eqb (v % 128) 16) 0 (getD hexFont (v % 16) 0)
 

@@ -134,7 +134,7 @@ assumedRows =
 -- and one whose first record is refused with 8
 abbrev pub malformedRows : List (List ℕ × List ℕ)
 malformedRows =
-    -- here a cut one of a chain of 1: `chain 4`, `R 8`
+    -- here a chain record cut before its body: `chain 4`, `R 8`
     (
       0x5A ∷ 0xC3 ∷ 1 ∷ 0 ∷ 1 ∷ [],
       0x63 ∷ 0x68 ∷ 0x61 ∷ 0x69 ∷ 0x6E ∷ 0x20 ∷ 0x34 ∷ 0x0A ∷ 0x52 ∷ 0x20 ∷ 0x38 ∷ 0x0A ∷ [],
@@ -153,7 +153,7 @@ answerRows = (answerLine [], 0x41 ∷ 0x0A ∷ []) ∷ (answerLine (0x0F ∷ [])
 abbrev pub Printed : List (List ℕ × List ℕ) → Type 0
 Printed table = map (λ (row : List ℕ × List ℕ). printed (row .0)) table ≡ map (λ (row : List ℕ × List ℕ). row .1) table
 
--- what the definitions print is what the document says
+-- what the definitions print is what the documents say
 pub record Examples : Type 0 where
   pub letters : Agree letterRows
   pub answers : Agree answerRows

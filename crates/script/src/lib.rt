@@ -246,7 +246,8 @@ pub fn limits()
     ensures { λ _. ⌜ Limits ⌝ }
 {}
 
-// A theorem: document 01's script prints its four lines, one of every other kind its own, and the first line is as it says in each case.
+// A theorem: document 01's script prints its four lines, one of every other kind its own, and the first line is as it says in each case; a show's line
+// ends with the answer mark, and without a chain record the chain is 4.
 pub fn examples()
     ensures { λ _. ⌜ Examples ⌝ }
 {}

@@ -90,7 +90,7 @@ impl Record {
         }
     }
 
-    /// Every field fits its register's width and the blink count is below 4,000,000.
+    /// Every field fits its register's width, the blink count is below 4,000,000 and the answer mark is 0 or 1.
     pub fn sound(&self) -> bool {
         let single = [
             self.test,

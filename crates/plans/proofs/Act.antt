@@ -22,7 +22,7 @@ use Rattle.registers.specs.declared.Registers.{Registers}
 use Rattle.device.specs.Taken.{taken}
 use Rattle.device.specs.Table15.{afterWords}
 use Rattle.device.specs.declared.Device.{Device}
-use Rattle.plans.specs.Words.{digitWrite, sameConfig, keeps, allowedBy, allowed, every}
+use Rattle.plans.specs.Words.{digitWrite, sameConfig, zeroTPX, keeps, allowedBy, allowed, every}
 use Rattle.plans.specs.Act.{stay, clear, acted, actOf, drawn}
 
 or-cases : (a b : Bool) → (a || b) ≡ true → {C : Type 0} → (a ≡ true → C) → (b ≡ true → C) → C
@@ -59,18 +59,14 @@ same-config x y h =
     let ps = eqb-true (x .s) (y .s) (and-right (i && e && b) s h) in
     λ k. record { i = pi k; e = pe k; b = pb k; s = ps k }
 
-module _ (c : Config) (v : ℕ) (h : keeps c v ≡ true) where
-  -- T is 0, and I, E, B and S stay
-  kept : (sameConfig (configOf v) c && not (bit 4 v)) ≡ true
-  kept =
-      let two = sameConfig (configOf v) c && not (bit 4 v) in
-      and-left two (not (bit 7 v)) (and-left (two && not (bit 7 v)) (not (bit 1 v)) h)
+-- T is 0, and I, E, B and S stay
+blink-kept : (c : Config) (v : ℕ) → keeps c v ≡ true → bit 4 v ≡ false
+blink-kept c v h =
+    let zero = and-right (sameConfig (configOf v) c) (zeroTPX v) h in
+    not-true _ (and-left (not (bit 4 v)) (not (bit 7 v)) (and-left (not (bit 4 v) && not (bit 7 v)) (not (bit 1 v)) zero))
 
-  blink-kept : bit 4 v ≡ false
-  blink-kept = not-true _ (and-right (sameConfig (configOf v) c) (not (bit 4 v)) kept)
-
-  config-kept : configOf v ≡ c
-  config-kept = same-config (configOf v) c (and-left (sameConfig (configOf v) c) (not (bit 4 v)) kept)
+config-kept : (c : Config) (v : ℕ) → keeps c v ≡ true → configOf v ≡ c
+config-kept c v h = same-config (configOf v) c (and-left (sameConfig (configOf v) c) (zeroTPX v) h)
 
 -- a choice of acts is a choice of planes
 clear-or : (p : Planes) (b : Bool) → if b cleared p ≡ acted p (if b clear stay)

@@ -1,15 +1,16 @@
 -- The planner's list for a chain is accepted, and none accepted is shorter.
 -- Assumes nothing.
-use Prim.Native.Nat.{ℕ, zero, suc, _+_, _*_, _-_, _/_, _%_, _<_, _≤_, max}
+use Prim.Native.Nat.{ℕ, zero, suc, _+_, _*_, _/_, _%_, _<_, _≤_, max}
 use native.Mathlib.Nat.{mul-add-div-right, mul-add-mod-self-right, mul-div-cancel, mul-mod-left, mul-le-mul-right, div-eq-of-lt, mod-eq-of-lt, suc-mul, add-zero, div-add-mod'}
 use native.Mathlib.Omega.{arith}
 use native.Mathlib.Decide.{decLt}
-use mathlib.Core.Bool.{true}
-use mathlib.Core.List.{List, _++_}
+use mathlib.Core.Bool.{Bool, true}
+use mathlib.Core.List.{List, [], _∷_, _++_}
 use mathlib.Core.Path.{_≡_, refl, sym, ap, ap₂, _∙_}
-use lib.ListN.{length, getD, take, drop, replicate, length-append, length-take, length-drop, length-replicate, getD-replicate, List·getD-append, List·getD-eq-default}
-use lib.Seq.{ext-getD, getD-append-add, getD-take, getD-drop}
+use lib.ListN.{length, getD, take, drop, length-take, length-drop, List·getD-eq-default}
+use lib.Seq.{getD-take, getD-drop}
 use Rattle.ground.specs.Lists.{tabulate}
+use Rattle.ground.proofs.Truth.{and-left, and-right}
 use Rattle.ground.proofs.Lists.{length-tabulate, getD-tabulate, tabulate-ext}
 use Rattle.digits.specs.declared.Planes.{Planes}
 use Rattle.device.specs.declared.Device.{Device}
@@ -18,52 +19,42 @@ use Rattle.plans.specs.Lists.{recordAt, wantedAt, wordsAt, AcceptedList,
 use Rattle.plans.specs.Least.{least}
 use Rattle.plans.specs.Plan.{planOf, largest, accesses, planned}
 use Rattle.plans.specs.Shortest.{Shortest}
-use Rattle.plans.specs.Act.{drawn}
+use Rattle.plans.specs.Act.{acted, actOf, drawn}
 use Rattle.plans.proofs.Act.{after-planes}
 use Rattle.plans.proofs.Potential.{none-shorter, least-le}
-use Rattle.plans.proofs.Planner.{drawn-append, every-append, plan-length, plan-accepted}
+use Rattle.plans.proofs.Planner.{plan-length, plan-accepted}
 
--- no-ops are allowed, and leave the planes
-waits-allowed : (d : Device) (n : ℕ) → every (allowed d) (replicate n 0) ≡ true
-unfolding every
-waits-allowed d zero = refl
-waits-allowed d (suc n) = waits-allowed d n
+-- a list by its elements, the first apart
+front : (n : ℕ) (f : ℕ → ℕ) → tabulate (suc n) f ≡ f 0 ∷ tabulate n (λ a. f (suc a))
+unfolding tabulate
+front zero f = refl
+front (suc n) f = ap (λ (l : List ℕ). l ++ f (suc n) ∷ []) (front n f)
 
-waits-drawn : (n : ℕ) (p : Planes) → drawn p (replicate n 0) ≡ p
-unfolding drawn
-waits-drawn zero p = refl
-waits-drawn (suc n) p = waits-drawn n p
+-- a list made n long with 0 after its end: waiting is allowed, and leaves the planes
+abbrev pad : ℕ → List ℕ → List ℕ
+pad n l = tabulate n (λ a. getD l a 0)
 
--- accepted words, and no-ops after them
-accepted-wait : (d : Device) (q : Planes) (ws : List ℕ) (n : ℕ) → Accepted d q ws → Accepted d q (ws ++ replicate n 0)
-accepted-wait d q ws n h =
-    let p = d .registers .planes in
-    let e = every-append (allowed d) ws (replicate n 0) (h .alone) (waits-allowed d n) in
+every-pad : (f : ℕ → Bool) → f 0 ≡ true → (n : ℕ) (l : List ℕ) → every f l ≡ true → every f (pad n l) ≡ true
+unfolding every tabulate
+every-pad f z zero l e = refl
+every-pad f z (suc n) [] e = rw (front n (λ a. 0), z) (every-pad f z n [] refl)
+every-pad f z (suc n) (x ∷ l) e =
+    rw (front n (λ a. getD (x ∷ l) a 0), and-left (f x) (every f l) e) (every-pad f z n l (and-right (f x) (every f l) e))
+
+drawn-pad : (n : ℕ) (l : List ℕ) (p : Planes) → length l ≤ n → drawn p (pad n l) ≡ drawn p l
+unfolding drawn tabulate
+drawn-pad zero [] p h = refl
+drawn-pad zero (x ∷ l) p h = absurd (omega arith)
+drawn-pad (suc n) [] p h = rw (front n (λ a. 0)) (drawn-pad n [] p (omega arith))
+drawn-pad (suc n) (x ∷ l) p h = rw (front n (λ a. getD (x ∷ l) a 0)) (drawn-pad n l (acted p (actOf x)) (omega arith))
+
+accepted-pad : (d : Device) (q : Planes) (ws : List ℕ) (n : ℕ) → length ws ≤ n → Accepted d q ws → Accepted d q (pad n ws)
+accepted-pad d q ws n l h =
+    let e = every-pad (allowed d) refl n ws (h .alone) in
     record {
       alone = e;
-      ends =
-          after-planes (ws ++ replicate n 0) d e
-          ∙ drawn-append ws (replicate n 0) p
-          ∙ waits-drawn n (drawn p ws)
-          ∙ sym (after-planes ws d (h .alone))
-          ∙ h .ends;
+      ends = after-planes (pad n ws) d e ∙ drawn-pad n ws (d .registers .planes) l ∙ sym (after-planes ws d (h .alone)) ∙ h .ends;
     }
-
--- the first n elements of a list, 0 past its end
-padded : (n : ℕ) (l : List ℕ) → length l ≤ n → tabulate n (λ a. getD l a 0) ≡ l ++ replicate (n - length l) 0
-padded n l h =
-    ext-getD 0 (tabulate n (λ a. getD l a 0)) (l ++ replicate (n - length l) 0)
-    (rw (length-tabulate, length-append, length-replicate) (omega arith))
-    (λ i g. let j : i < n = rw length-tabulate at g in getD-tabulate n (λ a. getD l a 0) 0 i j ∙ go i j (decLt i (length l)))
-  where
-    go : (i : ℕ) → i < n → Dec (i < length l) → getD l i 0 ≡ getD (l ++ replicate (n - length l) 0) i 0
-    go i j (yes k) = sym (List·getD-append l _ 0 i k)
-    go i j (no k) =
-        let e : i ≡ length l + (i - length l) = omega arith in
-        List·getD-eq-default l 0 (omega arith)
-        ∙ sym (getD-replicate (n - length l) (i - length l) 0 0 (omega arith))
-        ∙ sym (getD-append-add l (replicate (n - length l) 0) (i - length l) 0)
-        ∙ ap (λ (m : ℕ). getD (l ++ replicate (n - length l) 0) m 0) (sym e)
 
 -- the largest
 largest-le : (n m : ℕ) (f : ℕ → ℕ) → ((i : ℕ) → i < n → f i ≤ m) → largest n f ≤ m
@@ -122,7 +113,7 @@ module _ (ds : List Device) (wanted : List ℕ) (g : Given ds wanted) where
   planOfAt i = planOf (recordAt ds i) (wantedAt wanted i)
 
   -- each driver's words of the planner's list
-  own-words : (i : ℕ) → i < length ds → wordsAt (length ds) (planned ds wanted) i ≡ tabulate (accesses ds wanted) (λ a. getD (planOfAt i) a 0)
+  own-words : (i : ℕ) → i < length ds → wordsAt (length ds) (planned ds wanted) i ≡ pad (accesses ds wanted) (planOfAt i)
   unfolding planned planOfAt
   own-words i h =
       let n = length ds in
@@ -147,8 +138,8 @@ module _ (ds : List Device) (wanted : List ℕ) (g : Given ds wanted) where
         whole = rw planned-length (mul-mod-left (accesses ds wanted) (length ds));
         each =
             λ i h.
-            rw (own-words i h, padded (accesses ds wanted) (planOfAt i) (enough i h))
-            (accepted-wait (recordAt ds i) (wantedAt wanted i) (planOfAt i) (accesses ds wanted - length (planOfAt i))
+            rw (own-words i h)
+            (accepted-pad (recordAt ds i) (wantedAt wanted i) (planOfAt i) (accesses ds wanted) (enough i h)
             (plan-accepted (recordAt ds i) (wantedAt wanted i) (g .sound i h) (g .planes i h) (wanted-at i h)));
       }
 

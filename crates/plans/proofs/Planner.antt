@@ -74,12 +74,12 @@ module _ (c : Config) (hi : c .i < 2) (he : c .e < 2) (hb : c .b < 2) (hs : c .s
       may i e b s = allowedBy (record { i = i; e = e; b = b; s = s }) (clearWord (record { i = i; e = e; b = b; s = s }))
 
 -- lists of words one after the other
-pub drawn-append : (xs ys : List ℕ) (p : Planes) → drawn p (xs ++ ys) ≡ drawn (drawn p xs) ys
+drawn-append : (xs ys : List ℕ) (p : Planes) → drawn p (xs ++ ys) ≡ drawn (drawn p xs) ys
 unfolding drawn
 drawn-append [] ys p = refl
 drawn-append (x ∷ xs) ys p = drawn-append xs ys (acted p (actOf x))
 
-pub every-append : (f : ℕ → Bool) (xs ys : List ℕ) → every f xs ≡ true → every f ys ≡ true → every f (xs ++ ys) ≡ true
+every-append : (f : ℕ → Bool) (xs ys : List ℕ) → every f xs ≡ true → every f ys ≡ true → every f (xs ++ ys) ≡ true
 unfolding every
 every-append f [] ys h g = g
 every-append f (x ∷ xs) ys h g =

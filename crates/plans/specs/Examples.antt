@@ -57,32 +57,32 @@ pictures =
 abbrev pub chain : List Device
 chain = before ∷ powerUp ∷ []
 
--- their wanted contents: P0 then P1, driver 1 first
-abbrev pub wants : List ℕ
-wants = few .p0 ++ few .p1 ++ sparse .p0 ++ sparse .p1
-
--- the planner's list: driver 2 is done first, and waits
+-- the planner's list for them: wanted contents P0 then P1, driver 1 first, and words one to each driver per access, driver 1's first
 abbrev pub lists : List (List ℕ × List ℕ)
-lists = (
-  planned chain wants,
-  0x2041 ∷ 0x0420 ∷ 0x4307 ∷ 0x2503 ∷ 0x6908 ∷ 0x4504 ∷ 0x2C01 ∷ 0x6FFF ∷ 0x4C02 ∷ 0x0000 ∷ [],
-)
+lists =
+    -- driver 2 is done first, and waits with 0000
+    (
+      planned chain (few .p0 ++ few .p1 ++ sparse .p0 ++ sparse .p1),
+      0x2041 ∷ 0x0420 ∷ 0x4307 ∷ 0x2503 ∷ 0x6908 ∷ 0x4504 ∷ 0x2C01 ∷ 0x6FFF ∷ 0x4C02 ∷ 0x0000 ∷ [],
+    )
+    -- nothing to do: no access
+    ∷ (planned chain (planes .p0 ++ planes .p1 ++ planes .p0 ++ planes .p1), [])
     ∷ []
 
--- the check of a list for this chain: driver 1 is to get 0x41 in digit 0 of P0, driver 2 8 in digit 1a of P0 and 7 in digit 3 of P1
-abbrev pub accepts : List ℕ → Bool
-accepts list =
-    acceptedList chain
-    (
+-- wanted: 0x41 in digit 0 of driver 1's P0, 8 in digit 1a of driver 2's P0 and 7 in digit 3 of its P1; all else as it is
+abbrev pub wants : List ℕ
+wants =
     (0x41 ∷ 0x20 ∷ 0x20 ∷ 0x20 ∷ 0x20 ∷ 0x20 ∷ 0x20 ∷ 0x20 ∷ eight 0)
     ++ planes .p1
     ++ eight 0x20
     ++ (0 ∷ 8 ∷ 0 ∷ 0 ∷ 0 ∷ 0 ∷ 0 ∷ 0 ∷ [])
     ++ (0x20 ∷ 0x20 ∷ 0x20 ∷ 7 ∷ 0x20 ∷ 0x20 ∷ 0x20 ∷ 0x20 ∷ eight 0)
-    )
-    list
 
--- the shortest such list, with w as driver 1's second word
+-- the check of a list for this
+abbrev pub accepts : List ℕ → Bool
+accepts list = acceptedList chain wants list
+
+-- a shortest list, with w as driver 1's second word
 abbrev pub waiting : ℕ → Bool
 waiting w = accepts (0x2041 ∷ 0x4307 ∷ w ∷ 0x2908 ∷ [])
 

@@ -21,15 +21,19 @@ digitWrite w = eqb (w / 4096) 2 || eqb (w / 4096) 4 || eqb (w / 4096) 6
 abbrev pub sameConfig : Config → Config → Bool
 sameConfig x y = eqb (x .i) (y .i) && eqb (x .e) (y .e) && eqb (x .b) (y .b) && eqb (x .s) (y .s)
 
--- "keep I, E, B and S with T, P and X 0", of configuration data; "may clear": R either way
+-- "T, P and X 0"
+abbrev pub zeroTPX : ℕ → Bool
+zeroTPX v = not (bit 4 v) && not (bit 7 v) && not (bit 1 v)
+
+-- configuration data that "keep I, E, B and S with T, P and X 0"; "a configuration write may clear": R either way
 abbrev pub keeps : Config → ℕ → Bool
-keeps c v = sameConfig (configOf v) c && not (bit 4 v) && not (bit 7 v) && not (bit 1 v)
+keeps c v = sameConfig (configOf v) c && zeroTPX v
 
 -- "Only the no-op 0000, digit writes, and configuration writes that keep" these bits of a driver's configuration
 abbrev pub allowedBy : Config → ℕ → Bool
 allowedBy c w = eqb w 0 || digitWrite w || eqb (w / 256) 4 && keeps c (w % 256)
 
--- a word that a redraw may give to a driver
+-- a word that a redraw may give to a driver: by the configuration that it begins with, which all such words keep
 abbrev pub allowed : Device → ℕ → Bool
 allowed d w = allowedBy (d .registers .config) w
 

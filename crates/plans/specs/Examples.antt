@@ -101,16 +101,20 @@ checks =
     ∷ (waiting 0x044D, false)
     ∷ (waiting 0x0441, false)
     ∷ (waiting 0x0444, false)
-    -- a clear that leaves other planes
+    -- a clear, after which the planes are others
     ∷ (waiting 0x0465, false)
     -- a no-op with data, a read, another register
     ∷ (waiting 0x0001, false)
     ∷ (waiting 0x8000, false)
     ∷ (waiting 0x0207, false)
-    -- a longer list; the wanted planes not reached; driver 2's words first; an access in part
+    -- a longer list
     ∷ (accepts (0x2000 ∷ 0x0000 ∷ 0x2041 ∷ 0x4307 ∷ 0x0000 ∷ 0x2908 ∷ []), true)
+    -- other planes than wanted: P0, and P1
     ∷ (accepts (0x2041 ∷ 0x4307 ∷ []), false)
+    ∷ (accepts (0x2041 ∷ 0x2908 ∷ []), false)
+    -- driver 2's words first
     ∷ (accepts (0x4307 ∷ 0x2041 ∷ 0x2908 ∷ 0x0000 ∷ []), false)
+    -- an access in part
     ∷ (accepts (0x2041 ∷ 0x4307 ∷ 0x0000 ∷ 0x2908 ∷ 0x0000 ∷ []), false)
     ∷ []
 

@@ -1,4 +1,5 @@
--- Auxiliary: the least number of words for one driver, by a rule. `none-shorter` of Shortest is what is believed.
+-- Believed: document 02, request 6; house: the number of words by which the planner decides whether to clear. That no list is shorter is a theorem
+-- (Shortest).
 -- Assumes nothing.
 use Prim.Native.Nat.{ℕ, zero, suc, _+_, min, max}
 use mathlib.Core.Bool.{Bool, true, false}

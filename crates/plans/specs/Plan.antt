@@ -1,4 +1,5 @@
--- Auxiliary: the planner's own list, for one driver and for a chain. That it is accepted and none is shorter is what is believed (Shortest).
+-- Believed: document 02, request 6; house: which of the shortest lists the planner gives, for one driver and for a chain. No clear on a tie, digits
+-- rising, then 0000.
 -- Assumes nothing.
 use Prim.Native.Nat.{ℕ, zero, suc, _+_, _*_, _/_, _%_, max}
 use mathlib.Core.Bool.{Bool, true, false}

@@ -25,7 +25,7 @@ use Rattle.device.specs.declared.Device.{Device}
 use Rattle.plans.specs.Words.{digitWrite, sameConfig, zeroTPX, keeps, allowedBy, allowed, every}
 use Rattle.plans.specs.Act.{stay, clear, acted, actOf, drawn}
 
-or-cases : (a b : Bool) → (a || b) ≡ true → {C : Type 0} → (a ≡ true → C) → (b ≡ true → C) → C
+pub or-cases : (a b : Bool) → (a || b) ≡ true → {C : Type 0} → (a ≡ true → C) → (b ≡ true → C) → C
 or-cases true b e f g = f refl
 or-cases false b e f g = g e
 

@@ -1,6 +1,6 @@
--- Believed: document 01, "Numbers a call may give": 1 to 7, in the table's order. Each is its number where the row applies, else 0.
+-- Believed: document 01, "Numbers a call may give": 1 to 7, in the table's order, and document 02's 12 and 13. Each is its number where the row applies, else 0.
 -- Assumes nothing.
-use Prim.Native.Nat.{ℕ, _+_, _/_}
+use Prim.Native.Nat.{ℕ, _+_, _*_, _/_}
 use mathlib.Core.Bool.{Bool, _&&_}
 use mathlib.Core.List.{List, [], _∷_}
 use lib.Dec.{eqb, leb, ltb}
@@ -50,6 +50,14 @@ planeRefusal p0 p1 first last = if (eqb (length p0) 16 && eqb (length p1) 16 && 
 -- 7: some record of the chain isn't sound
 abbrev pub soundRefusal : Bool → ℕ
 soundRefusal sound = if sound 0 7
+
+-- 12: the wanted contents aren't 32 bytes for each of n drivers (document 02, request 6)
+abbrev pub wantedRefusal : ℕ → ℕ → ℕ
+wantedRefusal n wanted = if (eqb wanted (32 * n)) 0 12
+
+-- 13: the list's room is too small for k accesses of n words (document 02, request 6)
+abbrev pub listRefusal : ℕ → ℕ → ℕ → ℕ
+listRefusal n k room = if (ltb room (k * n)) 13 0
 
 -- the first number of a list that isn't 0, else 0: the lowest that applies is given
 abbrev pub firstOf : List ℕ → ℕ

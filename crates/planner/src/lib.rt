@@ -1,0 +1,366 @@
+// The planner by value: the words that one driver needs for its wanted contents, its part of a list of accesses, and whether it accepts its part of one.
+ghost use Prim.Native.Nat.{_+_, _*_, _-_, _/_, _%_, _<_, _≤_, max};
+ghost use mathlib.Core.Bool.{_&&_};
+ghost use mathlib.Core.List.{[], _∷_};
+ghost use mathlib.Core.Path.{_≡_};
+ghost use lib.Dec.{eqb, leb, ltb};
+ghost use lib.ListN.{length, replicate};
+ghost use Rattle.ground.specs.Choice.{if};
+ghost use Rattle.refusals.specs.Refusals.{firstOf, wantedRefusal as wantedOf, listRefusal as listOf};
+ghost use Rattle.plans.specs.Act.{acted as actedBy, actOf};
+ghost use Rattle.plans.specs.Words.{keeps as keepsOf, allowedBy};
+ghost use Rattle.plans.specs.Lists.{wordsAt, wantedAt};
+ghost use Rattle.plans.specs.Check.{same as sameOf, acceptedWords};
+ghost use Rattle.plans.specs.Least.{need as needOf, plain as plainOf, least as leastOf};
+ghost use Rattle.plans.specs.Plan.{clearWord, digitWords, steps, planBy};
+ghost use Rattle.planner.specs.Columns.{put};
+ghost use Rattle.planner.specs.OneDriver.{reach, withDriver, acceptsAt};
+use controls::Config;
+use device::Device;
+use digits::Planes;
+use words::Plane;
+
+// An answer: its number, and how many accesses the list has.
+#[repr(C)]
+pub struct PlanAnswer {
+    pub number: u8,
+    pub accesses: usize,
+}
+
+// An answer: its number, and 1 where the list is accepted.
+#[repr(C)]
+pub struct PlanCheckAnswer {
+    pub number: u8,
+    pub accepted: u8,
+}
+
+// 12, where there is no number yet: the wanted contents aren't 32 bytes for each of n drivers.
+pub fn wanted_refusal(first: u8, n: usize, wanted: usize) -> u8
+    ensures { λ r. ⌜ r ≡ firstOf (first ∷ wantedOf n wanted ∷ []) ⌝ }
+{
+    if first != 0 {
+        return first;
+    }
+    if (wanted / 32 == n) & (wanted % 32 == 0) {
+        0
+    } else {
+        12
+    }
+}
+
+// 13, where there is no number yet: the list's room is too small for k accesses of n words.
+pub fn list_refusal(first: u8, n: usize, k: usize, room: usize) -> u8
+    ensures { λ r. ⌜ r ≡ firstOf (first ∷ listOf n k room ∷ []) ⌝ }
+{
+    if (first != 0) | (n == 0) {
+        return first;
+    }
+    if room / n < k { 13 } else { 0 }
+}
+
+// The planner's answer: a refused one has no access.
+pub fn plan_answer(number: u8, k: usize) -> PlanAnswer
+    ensures { λ r. ⌜ r ≡ record { number = number; accesses = if (eqb number 0) k 0 } ⌝ }
+{
+    PlanAnswer {
+        number: number,
+        accesses: if number == 0 { k } else { 0 },
+    }
+}
+
+// The check's answer, by whether every driver accepts its words: a list of whole accesses is accepted.
+pub fn check_answer(number: u8, n: usize, words: usize, each: bool) -> PlanCheckAnswer
+    ensures { λ r. ⌜ r ≡ record { number = number; accepted = if (eqb number 0 && ltb 0 n && eqb (words % n) 0 && each) 1 0 } ⌝ }
+{
+    let mut accepted = 0;
+    if (number == 0) & (0 < n) & each {
+        if words % n == 0 {
+            accepted = 1;
+        }
+    }
+    PlanCheckAnswer {
+        number: number,
+        accepted: accepted,
+    }
+}
+
+// The words that one digit needs, which holds a and b, and is to hold x and y.
+fn need(a: u8, b: u8, x: u8, y: u8) -> usize
+    ensures { λ r. ⌜ r ≡ needOf a b x y ⌝ }
+{
+    if a == x {
+        if b == y { 0 } else { 1 }
+    } else if b == y {
+        1
+    } else if x == y {
+        1
+    } else {
+        2
+    }
+}
+
+// The words that all digits need without a clear, for the wanted contents of place i.
+fn plain(held: Planes, wanted: &[u8], i: usize) -> usize
+    requires { ⌜ 32 * i + 32 ≤ length (now wanted) ⌝ }
+    ensures { λ r. ⌜ r ≡ plainOf held (wantedAt (now (wanted .entry)) i) ⌝ }
+{
+    let p0 = held.p0;
+    let p1 = held.p1;
+    let from = 32 * i;
+    let mut sum = 0;
+    let mut k = 0;
+    while k < 16 {
+        sum += need(p0[k], p1[k], wanted[from + k], wanted[from + 16 + k]);
+        k += 1;
+    }
+    sum
+}
+
+// The least number of words for one driver.
+fn least(held: Planes, wanted: &[u8], i: usize) -> usize
+    requires { ⌜ 32 * i + 32 ≤ length (now wanted) ⌝ }
+    ensures { λ r. ⌜ r ≡ leastOf held (wantedAt (now (wanted .entry)) i) ⌝ }
+{
+    let kept = plain(held, wanted, i);
+    let anew = 1 + plain(Planes::CLEARED, wanted, i);
+    if kept <= anew { kept } else { anew }
+}
+
+// The most words that a driver needs, of those before and the one at place i.
+pub fn more(most: usize, i: usize, d: Device, wanted: &[u8]) -> usize
+    ensures { λ r. ⌜ r ≡ max most (reach d (now (wanted .entry)) i) ⌝ }
+{
+    if i < wanted.len() / 32 {
+        let registers = d.registers;
+        let k = least(registers.planes, wanted, i);
+        if most < k {
+            return k;
+        }
+    }
+    most
+}
+
+// A digit's write: 0x20, 0x40 or 0x60 as a word, the digit, its byte.
+fn word(row: u16, k: usize, v: u8) -> u16
+    requires { ⌜ (row < 32768) × (k < 16) ⌝ }
+    ensures { λ r. ⌜ r ≡ row + k * 256 + v ⌝ }
+{
+    row + (k as u16) * 256 + v as u16
+}
+
+// A clear that keeps the configuration.
+fn clear_word(c: Config) -> u16
+    ensures { λ r. ⌜ r ≡ clearWord c ⌝ }
+{
+    1056 + c.i as u16 * 64 + c.e as u16 * 8 + c.b as u16 * 4 + c.s as u16
+}
+
+// The words that digit k needs, put into the list: the first at `at`, the second n after it. The place after them.
+fn write_digit(list: &mut [u16], n: usize, at: usize, k: usize, a: u8, b: u8, x: u8, y: u8) -> usize
+    requires { ⌜ (k < 16) × (n ≤ 16) × (at + needOf a b x y * n < length (now list) + n) ⌝ }
+    ensures { λ r. ⌜ (now (list .exit) ≡ put (now (list .entry)) n at (digitWords k a b x y)) × (r ≡ at + needOf a b x y * n) ⌝ }
+{
+    if a == x {
+        if b == y {
+            return at;
+        }
+        list[at] = word(16384, k, y);
+        return at + n;
+    }
+    if b == y {
+        list[at] = word(8192, k, x);
+        return at + n;
+    }
+    if x == y {
+        list[at] = word(24576, k, x);
+        return at + n;
+    }
+    let next = at + n;
+    list[at] = word(8192, k, x);
+    list[next] = word(16384, k, y);
+    next + n
+}
+
+// The words of all digits, put into the list from a place on. The place after them.
+fn write_digits(
+    list: &mut [u16],
+    n: usize,
+    start: usize,
+    held: Planes,
+    wanted: &[u8],
+    i: usize,
+) -> usize
+    requires { ⌜ (n ≤ 16) × (32 * i + 32 ≤ length (now wanted)) × (start + plainOf held (wantedAt (now wanted) i) * n < length (now list) + n) ⌝ }
+    ensures { λ r. ⌜ (now (list .exit) ≡ put (now (list .entry)) n start (steps held (wantedAt (now (wanted .entry)) i) 16)) × (r ≡ start + plainOf held (wantedAt (now (wanted .entry)) i) * n) ⌝ }
+{
+    let p0 = held.p0;
+    let p1 = held.p1;
+    let from = 32 * i;
+    let mut at = start;
+    let mut k = 0;
+    while k < 16 {
+        at = write_digit(
+            list,
+            n,
+            at,
+            k,
+            p0[k],
+            p1[k],
+            wanted[from + k],
+            wanted[from + 16 + k],
+        );
+        k += 1;
+    }
+    at
+}
+
+// No-ops, put into the list from a place on, as many as are asked for.
+fn write_waits(list: &mut [u16], n: usize, start: usize, count: usize)
+    requires { ⌜ (n ≤ 16) × (count ≤ 32) × (start + count * n < length (now list) + n) ⌝ }
+    ensures { λ _. ⌜ now (list .exit) ≡ put (now (list .entry)) n start (replicate count 0) ⌝ }
+{
+    let mut at = start;
+    let mut k = 0;
+    while k < count {
+        list[at] = 0;
+        at += n;
+        k += 1;
+    }
+}
+
+// The words of all digits, which are m, and no-ops after them, as many as are left.
+fn write_words(
+    list: &mut [u16],
+    n: usize,
+    start: usize,
+    left: usize,
+    m: usize,
+    held: Planes,
+    wanted: &[u8],
+    i: usize,
+)
+    requires { ⌜ (n ≤ 16) × (left ≤ 32) × (32 * i + 32 ≤ length (now wanted)) × (m ≡ plainOf held (wantedAt (now wanted) i)) × (m ≤ left) × (start + left * n < length (now list) + n) ⌝ }
+    ensures { λ _. ⌜ now (list .exit) ≡ put (put (now (list .entry)) n start (steps held (wantedAt (now (wanted .entry)) i) 16)) n (start + plainOf held (wantedAt (now (wanted .entry)) i) * n) (replicate (left - plainOf held (wantedAt (now (wanted .entry)) i)) 0) ⌝ }
+{
+    let at = write_digits(list, n, start, held, wanted, i);
+    write_waits(list, n, at, left - m);
+}
+
+// Whether there is a place i among n drivers, with wanted contents, and room for k accesses.
+fn in_room(room: usize, wanted: usize, n: usize, k: usize, i: usize) -> bool
+    ensures { λ r. ⌜ r ≡ (ltb i n && ltb n 17 && ltb k 33 && ltb i (wanted / 32) && leb (k * n) room) ⌝ }
+{
+    if (i < n) & (n < 17) & (k < 33) & (i < wanted / 32) {
+        return k * n <= room;
+    }
+    false
+}
+
+// The words of the driver at place i, and no-ops after them: its part of the list's first k accesses.
+pub fn write_driver(list: &mut [u16], wanted: &[u8], n: usize, k: usize, i: usize, d: Device)
+    ensures { λ _. ⌜ now (list .exit) ≡ withDriver (now (list .entry)) (now (wanted .entry)) n k i d ⌝ }
+{
+    if in_room(list.len(), wanted.len(), n, k, i) {
+        let registers = d.registers;
+        let held = registers.planes;
+        let kept = plain(held, wanted, i);
+        let anew = plain(Planes::CLEARED, wanted, i);
+        if kept <= 1 + anew {
+            if kept <= k {
+                write_words(list, n, i, k, kept, held, wanted, i);
+            }
+        } else if anew < k {
+            list[i] = clear_word(registers.config);
+            write_words(list, n, i + n, k - 1, anew, Planes::CLEARED, wanted, i);
+        }
+    }
+}
+
+// Configuration data that keeps I, E, B and S, with P, T and X 0.
+fn keeps(c: Config, v: u16) -> bool
+    ensures { λ r. ⌜ r ≡ keepsOf c v ⌝ }
+{
+    let stored = (v / 64 % 2 == c.i as u16)
+        & (v / 8 % 2 == c.e as u16)
+        & (v / 4 % 2 == c.b as u16)
+        & (v % 2 == c.s as u16);
+    stored & !(v / 16 % 2 == 1) & !(v / 128 % 2 == 1) & !(v / 2 % 2 == 1)
+}
+
+// A word that a redraw may give.
+fn allowed(c: Config, w: u16) -> bool
+    ensures { λ r. ⌜ r ≡ allowedBy c w ⌝ }
+{
+    let row = w / 4096;
+    let digit = (row == 2) | (row == 4) | (row == 6);
+    (w == 0) | digit | (w / 256 == 4) & keeps(c, w % 256)
+}
+
+// The planes after an allowed word.
+fn acted(p: Planes, w: u16) -> Planes
+    ensures { λ r. ⌜ r ≡ actedBy p (actOf w) ⌝ }
+{
+    let row = w / 4096;
+    let k = (w / 256 % 16) as u8;
+    let v = (w % 256) as u8;
+    if row == 2 {
+        p.written(Plane::P0, k, v)
+    } else if row == 4 {
+        p.written(Plane::P1, k, v)
+    } else if row == 6 {
+        p.both_written(k, v)
+    } else {
+        p.cleared_if((w / 256 == 4) & (v / 32 % 2 == 1))
+    }
+}
+
+// Whether planes are the wanted contents of place i.
+fn same(p: Planes, wanted: &[u8], i: usize) -> bool
+    requires { ⌜ 32 * i + 32 ≤ length (now wanted) ⌝ }
+    ensures { λ r. ⌜ r ≡ sameOf p (wantedAt (now (wanted .entry)) i) ⌝ }
+{
+    let p0 = p.p0;
+    let p1 = p.p1;
+    let from = 32 * i;
+    let mut k = 0;
+    while k < 16 {
+        if !((p0[k] == wanted[from + k]) & (p1[k] == wanted[from + 16 + k])) {
+            return false;
+        }
+        k += 1;
+    }
+    true
+}
+
+// Whether the driver at place i of n accepts its words of a list.
+fn own_accepted(i: usize, d: Device, n: usize, wanted: &[u8], list: &[u16]) -> bool
+    requires { ⌜ (i < n) × (n ≤ 16) × (32 * i + 32 ≤ length (now wanted)) ⌝ }
+    ensures { λ r. ⌜ r ≡ acceptedWords d (wantedAt (now (wanted .entry)) i) (wordsAt n (now (list .entry)) i) ⌝ }
+{
+    let registers = d.registers;
+    let config = registers.config;
+    let mut p = registers.planes;
+    let k = list.len() / n;
+    let mut at = i;
+    let mut a = 0;
+    while a < k {
+        let w = list[at];
+        if !allowed(config, w) {
+            return false;
+        }
+        p = acted(p, w);
+        at += n;
+        a += 1;
+    }
+    same(p, wanted, i)
+}
+
+// Whether all drivers before and the one at place i accept their words of a list.
+pub fn accepts(each: bool, i: usize, d: Device, n: usize, wanted: &[u8], list: &[u16]) -> bool
+    ensures { λ r. ⌜ r ≡ (each && acceptsAt d n (now (wanted .entry)) (now (list .entry)) i) ⌝ }
+{
+    if each & (i < n) & (n < 17) & (i < wanted.len() / 32) {
+        return own_accepted(i, d, n, wanted, list);
+    }
+    false
+}

@@ -1,1 +1,2 @@
 pub mod OnWire
+pub mod Passes

@@ -1,0 +1,88 @@
+-- `planner::own_accepted` meets its contract. The invariant: the planes after the first a words accept the others as the driver all. Assumes nothing.
+use Prim.Native.Nat.{ℕ, _+_, _*_, _/_, _-_, _≤_, _<_}
+use native.Mathlib.Numerals.{add-one}
+use native.Mathlib.Nat.{suc-mul, div-le-self}
+use native.Mathlib.Omega.{arith}
+use mathlib.Core.Path.{_≡_, refl, sym, _∙_}
+use lib.ListN.{length, drop}
+use borrow.Author.Needs.{needs}
+use borrow.Author.Tests.{not-true, not-false}
+use Rattle.plans.specs.Lists.{wantedAt, wordsAt}
+use Rattle.planner.proofs.CheckLaws.{fromPlanes, words-planes, word-taken, word-refused, words-done, place-in}
+use Rattle.planner.proofs.own_accepted.Statement.{statement}
+use Rattle.planner.proofs.own_accepted.Tie as tie
+
+abbrev Inv-loop : tie.InvT-loop
+Inv-loop i n wanted list config p₀ k at₀ a₀ p at a =
+    (a ≤ k)
+    × (at ≡ a * n + i)
+    × (fromPlanes config (wantedAt wanted i) p₀ (wordsAt n list i) ≡ fromPlanes config (wantedAt wanted i) p (drop a (wordsAt n list i)))
+
+abbrev μ-loop : tie.MeasureT-loop
+μ-loop i n wanted list config p₀ k at₀ a₀ p at a = k - a
+
+loop-holds : tie.Need-loop-holds Inv-loop μ-loop
+loop-holds c = (omega arith, omega arith, refl)
+
+mul-w : tie.Need-mul-w Inv-loop μ-loop
+mul-w c =
+    let s = c .before .before .before .before .before .before .before in
+    omega (arith, place-in (s .args .list .now) (s .args .n) (s .args .i) (c .before .loop .a) (s .pre .0) (omega arith))
+
+shared-slice-read-w : tie.Need-shared-slice-read-w Inv-loop μ-loop
+shared-slice-read-w c =
+    let s = c .before .before .before .before .before .before .before .before in
+    omega (arith, place-in (s .args .list .now) (s .args .n) (s .args .i) (c .before .before .loop .a) (s .pre .0) (omega arith))
+
+returns : tie.Need-returns Inv-loop μ-loop
+returns c =
+    let s = c .before .before .before .before .before .before .before .before .before .before .args in
+    let l = c .before .before .before .before .loop in
+    let t = sym (c .before .allowed .ensures) ∙ not-true _ (c .if1 .taken) in
+    sym (words-planes (s .d) _ _ ∙ l .inv .2 ∙ word-refused _ _ (l .p) (s .list .now) (s .n) (s .i) (l .a) (l .at) (omega arith) (l .inv .1) t)
+
+add-at : tie.Need-add-at Inv-loop μ-loop
+add-at c =
+    let s = c .before .before .before .before .before .before .before .before .before .before .before in
+    omega (arith, place-in (s .args .list .now) (s .args .n) (s .args .i) (c .before .before .before .before .before .loop .a) (s .pre .0) (omega arith))
+
+add-a : tie.Need-add-a Inv-loop μ-loop
+add-a c =
+    let s = c .before .before .before .before .before .before .before .before .before .before .before .args in
+    omega (arith, div-le-self (length (s .list .now)) (s .n))
+
+loop-again : tie.Need-loop-again Inv-loop μ-loop
+loop-again c =
+    let s = c .before .before .before .before .before .before .before .before .before .before .before .args in
+    let l = c .before .before .before .before .before .loop in
+    let t = sym (c .before .before .allowed .ensures) ∙ not-false _ (c .before .if1 .left) in (
+      omega arith,
+      rw add-one (omega (arith, suc-mul (l .a) (s .n))),
+      l .inv .2 ∙ rw (add-one, c .acted .ensures) (word-taken _ _ (l .p) (s .list .now) (s .n) (s .i) (l .a) (l .at) (omega arith) (l .inv .1) t),
+    )
+
+returns-2 : tie.Need-returns-2 Inv-loop μ-loop
+returns-2 c =
+    let s = c .before .before .before .before .before .before .before .before .args in
+    let l = c .before .before .loop in
+    c .same .ensures ∙ sym (words-planes (s .d) _ _ ∙ l .inv .2 ∙ words-done _ _ (l .p) (s .list .now) (s .n) (s .i) (l .a) (omega arith))
+
+pub own-accepted-spec : {M : Type 1} → statement M
+own-accepted-spec =
+    tie.close
+    (tie.spec
+    Inv-loop
+    μ-loop
+    (λ c. search needs)
+    loop-holds
+    mul-w
+    shared-slice-read-w
+    (λ c κs. search needs)
+    returns
+    (λ c κs. search needs)
+    add-at
+    add-a
+    (λ c. search needs)
+    loop-again
+    (λ c κs. search needs)
+    returns-2)

@@ -24,6 +24,6 @@ accepts-spec =
     tie.close
     (tie.spec
     own-accepted-requires
-    (λ c. ?)
-    (λ c. ?)
-    (λ c. ?))
+    (λ c. rw (c .before .before .if1 .taken, c .before .if2 .taken) (c .own-accepted .ensures))
+    (λ c. rw (c .before .if1 .taken, c .if2 .left))
+    (λ c. rw (c .if1 .left)))

@@ -24,16 +24,16 @@ unfolding below
 below-ext zero f g h = refl
 below-ext (suc n) f g h = ap₂ _&&_ (below-ext n f g (λ i l. h i (omega arith))) (h n (omega arith))
 
-module _ (ds : List Device) (wanted : List ℕ) (z : length wanted ≡ 32 * length ds) where
-  wanted-in : (i : ℕ) → i < length ds → isWanted wanted i ≡ true
-  wanted-in i h = lt-ltb i (length wanted / 32) (omega (arith, z))
+wanted-in : (ds : List Device) (wanted : List ℕ) → length wanted ≡ 32 * length ds → (i : ℕ) → i < length ds → isWanted wanted i ≡ true
+wanted-in ds wanted z i h = lt-ltb i (length wanted / 32) (omega (arith, z))
 
-  pub reach-accesses : reachTo ds wanted (length ds) ≡ accesses ds wanted
-  unfolding accesses
-  reach-accesses = largest-ext (length ds) _ _ (λ i h. rw (wanted-in i h))
+pub reach-accesses : (ds : List Device) (wanted : List ℕ) → length wanted ≡ 32 * length ds → reachTo ds wanted (length ds) ≡ accesses ds wanted
+unfolding accesses
+reach-accesses ds wanted z = largest-ext (length ds) _ _ (λ i h. rw (wanted-in ds wanted z i h))
 
-  pub accept-list : (list : List ℕ) → length ds ≤ 16 → (eqb (length list % length ds) 0 && acceptTo ds wanted list (length ds)) ≡ acceptedList ds wanted list
-  unfolding acceptedList
-  accept-list list s =
-      ap (λ (b : Bool). eqb (length list % length ds) 0 && b)
-      (below-ext (length ds) _ _ (λ i h. rw (lt-ltb i (length ds) h, lt-ltb (length ds) 17 (omega arith), wanted-in i h)))
+pub accept-list : (ds : List Device) (wanted list : List ℕ) → length ds ≤ 16 → length wanted ≡ 32 * length ds
+    → (eqb (length list % length ds) 0 && acceptTo ds wanted list (length ds)) ≡ acceptedList ds wanted list
+unfolding acceptedList
+accept-list ds wanted list s z =
+    ap (λ (b : Bool). eqb (length list % length ds) 0 && b)
+    (below-ext (length ds) _ _ (λ i h. rw (lt-ltb i (length ds) h, lt-ltb (length ds) 17 (omega arith), wanted-in ds wanted z i h)))

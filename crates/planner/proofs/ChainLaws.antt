@@ -9,8 +9,9 @@ use lib.Dec.{eqb}
 use lib.ListN.{length}
 use borrow.Author.Tests.{lt-ltb}
 use Rattle.device.specs.declared.Device.{Device}
-use Rattle.plans.specs.Check.{below, acceptedList}
+use Rattle.plans.specs.Check.{acceptedList}
 use Rattle.plans.specs.Plan.{largest, accesses}
+use Rattle.planner.proofs.CheckLaws.{below-ext}
 use Rattle.planner.specs.OneDriver.{isWanted, reachTo, acceptTo}
 
 -- functions that are equal below n
@@ -18,11 +19,6 @@ largest-ext : (n : ℕ) (f g : ℕ → ℕ) → ((i : ℕ) → i < n → f i ≡
 unfolding largest
 largest-ext zero f g h = refl
 largest-ext (suc n) f g h = ap₂ max (largest-ext n f g (λ i l. h i (omega arith))) (h n (omega arith))
-
-below-ext : (n : ℕ) (f g : ℕ → Bool) → ((i : ℕ) → i < n → f i ≡ g i) → below n f ≡ below n g
-unfolding below
-below-ext zero f g h = refl
-below-ext (suc n) f g h = ap₂ _&&_ (below-ext n f g (λ i l. h i (omega arith))) (h n (omega arith))
 
 wanted-in : (ds : List Device) (wanted : List ℕ) → length wanted ≡ 32 * length ds → (i : ℕ) → i < length ds → isWanted wanted i ≡ true
 wanted-in ds wanted z i h = lt-ltb i (length wanted / 32) (omega (arith, z))

@@ -1,11 +1,11 @@
 -- One driver's words by the planes alone, word by word, and digits compared one by one.
 -- Assumes nothing.
-use Prim.Native.Nat.{ℕ, suc, _+_, _*_, _/_, _<_, _≤_}
+use Prim.Native.Nat.{ℕ, zero, suc, _+_, _*_, _/_, _<_, _≤_}
 use native.Mathlib.Nat.{div-add-mod'}
 use native.Mathlib.Omega.{arith}
 use mathlib.Core.Bool.{Bool, true, false, _&&_}
 use mathlib.Core.List.{List, _∷_}
-use mathlib.Core.Path.{_≡_, refl, sym, _∙_}
+use mathlib.Core.Path.{_≡_, refl, sym, ap₂, _∙_}
 use lib.ListN.{length, getD, drop, drop-of-length-le}
 use lib.Seq.{drop-cons}
 use Rattle.ground.proofs.Lists.{length-tabulate, getD-tabulate}
@@ -20,6 +20,12 @@ use Rattle.plans.specs.Act.{acted, actOf, drawn}
 use Rattle.plans.proofs.Act.{after-planes}
 use Rattle.plans.proofs.Lists.{place-lt}
 use Rattle.plans.proofs.Check.{below-at}
+
+-- tests that are equal below n
+pub below-ext : (n : ℕ) (f g : ℕ → Bool) → ((i : ℕ) → i < n → f i ≡ g i) → below n f ≡ below n g
+unfolding below
+below-ext zero f g h = refl
+below-ext (suc n) f g h = ap₂ _&&_ (below-ext n f g (λ i l. h i (omega arith))) (h n (omega arith))
 
 -- a test that fails somewhere
 pub below-not : (n : ℕ) (f : ℕ → Bool) (k : ℕ) → k < n → f k ≡ false → below n f ≡ false

@@ -1,10 +1,10 @@
--- `planner::own_accepted` meets its contract. The invariant: the planes after the first a words accept the others as the driver all. Assumes nothing.
-use Prim.Native.Nat.{ℕ, _+_, _*_, _/_, _-_, _≤_, _<_}
+-- `planner::own_accepted` meets its contract. The invariant: after a words, the rest decides by the planes so far. Assumes nothing.
+use Prim.Native.Nat.{_+_, _*_, _-_, _≤_}
 use native.Mathlib.Numerals.{add-one}
 use native.Mathlib.Nat.{suc-mul, div-le-self}
 use native.Mathlib.Omega.{arith}
 use mathlib.Core.Path.{_≡_, refl, sym, _∙_}
-use lib.ListN.{length, drop}
+use lib.ListN.{drop}
 use borrow.Author.Needs.{needs}
 use borrow.Author.Tests.{not-true, not-false}
 use Rattle.plans.specs.Lists.{wantedAt, wordsAt}
@@ -46,11 +46,6 @@ add-at c =
     let s = c .before .before .before .before .before .before .before .before .before .before .before in
     omega (arith, place-in (s .args .list .now) (s .args .n) (s .args .i) (c .before .before .before .before .before .loop .a) (s .pre .0) (omega arith))
 
-add-a : tie.Need-add-a Inv-loop μ-loop
-add-a c =
-    let s = c .before .before .before .before .before .before .before .before .before .before .before .args in
-    omega (arith, div-le-self (length (s .list .now)) (s .n))
-
 loop-again : tie.Need-loop-again Inv-loop μ-loop
 loop-again c =
     let s = c .before .before .before .before .before .before .before .before .before .before .before .args in
@@ -81,7 +76,7 @@ own-accepted-spec =
     returns
     (λ c κs. search needs)
     add-at
-    add-a
+    (λ c. search (needs, div-le-self))
     (λ c. search needs)
     loop-again
     (λ c κs. search needs)

@@ -1,11 +1,10 @@
 -- `planner::plain` meets its contract. The invariant: the words of the digits below k. Assumes nothing.
-use Prim.Native.Nat.{_*_, _≤_, _-_}
+use Prim.Native.Nat.{_≤_, _-_}
 use native.Mathlib.Numerals.{add-one}
 use native.Mathlib.Omega.{arith}
-use mathlib.Core.Path.{_≡_, refl, sym, _∙_}
-use lib.ListN.{getD}
+use mathlib.Core.Path.{_≡_, refl, _∙_}
 use borrow.Author.Needs.{needs}
-use Rattle.plans.specs.Least.{need, total, needAt}
+use Rattle.plans.specs.Least.{total, needAt}
 use Rattle.plans.specs.Lists.{wantedAt}
 use Rattle.plans.proofs.Potential.{need-le, needs-le}
 use Rattle.planner.proofs.WantedLaws.{wanted-p0, wanted-p1}
@@ -31,10 +30,10 @@ add-sum c =
 loop-again : tie.Need-loop-again Inv-loop μ-loop
 unfolding total
 loop-again c =
-    let a = c .before .before .before .before .before .before .before .before .args in
+    let s = c .before .before .before .before .before .before .before .before .args in
     let l = c .before .before .before .before .loop in (
       omega arith,
-      rw (add-one, c .need .ensures, l .inv .1, wanted-p0 (a .wanted .now) (a .i) (l .k) (omega arith), wanted-p1 (a .wanted .now) (a .i) (l .k) (omega arith)),
+      rw (add-one, c .need .ensures, l .inv .1, wanted-p0 (s .wanted .now) (s .i) (l .k) (omega arith), wanted-p1 (s .wanted .now) (s .i) (l .k) (omega arith)),
     )
 
 returns : tie.Need-returns Inv-loop μ-loop

@@ -4,7 +4,7 @@ use native.Mathlib.Numerals.{add-one}
 use native.Mathlib.Nat.{suc-mul, div-le-self}
 use native.Mathlib.Omega.{arith}
 use mathlib.Core.Path.{_≡_, refl, sym, _∙_}
-use lib.ListN.{drop}
+use lib.ListN.{length, drop}
 use borrow.Author.Needs.{needs}
 use borrow.Author.Tests.{not-true, not-false}
 use Rattle.plans.specs.Lists.{wantedAt, wordsAt}
@@ -15,6 +15,7 @@ use Rattle.planner.proofs.own_accepted.Tie as tie
 abbrev Inv-loop : tie.InvT-loop
 Inv-loop i n wanted list config p₀ k at₀ a₀ p at a =
     (a ≤ k)
+    × (k ≤ length list)
     × (at ≡ a * n + i)
     × (fromPlanes config (wantedAt wanted i) p₀ (wordsAt n list i) ≡ fromPlanes config (wantedAt wanted i) p (drop a (wordsAt n list i)))
 
@@ -22,7 +23,7 @@ abbrev μ-loop : tie.MeasureT-loop
 μ-loop i n wanted list config p₀ k at₀ a₀ p at a = k - a
 
 loop-holds : tie.Need-loop-holds Inv-loop μ-loop
-loop-holds c = (omega arith, omega arith, refl)
+loop-holds c = (omega arith, div-le-self _ _, omega arith, refl)
 
 mul-w : tie.Need-mul-w Inv-loop μ-loop
 mul-w c =
@@ -39,7 +40,7 @@ returns c =
     let s = c .before .before .before .before .before .before .before .before .before .before .args in
     let l = c .before .before .before .before .loop in
     let t = sym (c .before .allowed .ensures) ∙ not-true _ (c .if1 .taken) in
-    sym (words-planes (s .d) _ _ ∙ l .inv .2 ∙ word-refused _ _ (l .p) (s .list .now) (s .n) (s .i) (l .a) (l .at) (omega arith) (l .inv .1) t)
+    sym (words-planes (s .d) _ _ ∙ l .inv .3 ∙ word-refused _ _ (l .p) (s .list .now) (s .n) (s .i) (l .a) (l .at) (omega arith) (l .inv .2) t)
 
 add-at : tie.Need-add-at Inv-loop μ-loop
 add-at c =
@@ -52,15 +53,16 @@ loop-again c =
     let l = c .before .before .before .before .before .loop in
     let t = sym (c .before .before .allowed .ensures) ∙ not-false _ (c .before .if1 .left) in (
       omega arith,
+      l .inv .1,
       rw add-one (omega (arith, suc-mul (l .a) (s .n))),
-      l .inv .2 ∙ rw (add-one, c .acted .ensures) (word-taken _ _ (l .p) (s .list .now) (s .n) (s .i) (l .a) (l .at) (omega arith) (l .inv .1) t),
+      l .inv .3 ∙ rw (add-one, c .acted .ensures) (word-taken _ _ (l .p) (s .list .now) (s .n) (s .i) (l .a) (l .at) (omega arith) (l .inv .2) t),
     )
 
 returns-2 : tie.Need-returns-2 Inv-loop μ-loop
 returns-2 c =
     let s = c .before .before .before .before .before .before .before .before .args in
     let l = c .before .before .loop in
-    c .same .ensures ∙ sym (words-planes (s .d) _ _ ∙ l .inv .2 ∙ words-done _ _ (l .p) (s .list .now) (s .n) (s .i) (l .a) (omega arith))
+    c .same .ensures ∙ sym (words-planes (s .d) _ _ ∙ l .inv .3 ∙ words-done _ _ (l .p) (s .list .now) (s .n) (s .i) (l .a) (omega arith))
 
 pub own-accepted-spec : {M : Type 1} → statement M
 own-accepted-spec =
@@ -76,7 +78,7 @@ own-accepted-spec =
     returns
     (λ c κs. search needs)
     add-at
-    (λ c. search (needs, div-le-self))
+    (λ c. search needs)
     (λ c. search needs)
     loop-again
     (λ c κs. search needs)

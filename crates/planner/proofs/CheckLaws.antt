@@ -66,6 +66,6 @@ module _ (c : Config) (q p : Planes) (list : List ℕ) (n i a : ℕ) where
   unfolding every drawn
   words-done h = rw (drop-of-length-le (wordsAt n list i) {i = a} (rw length-tabulate h))
 
--- place i of access a is in the list
-pub place-in : (list : List ℕ) (n i a : ℕ) → i < n → a < length list / n → a * n + i < length list
-place-in list n i a h l = omega (arith, place-lt n a i h (length list / n) l, div-add-mod' (length list) n)
+-- place i of access a is among m words
+pub place-in : (m n i : ℕ) → i < n → (a : ℕ) → a < m / n → a * n + i < m
+place-in m n i h a l = omega (arith, place-lt n a i h (m / n) l, div-add-mod' m n)

@@ -1,5 +1,5 @@
 -- `planner::own_accepted` meets its contract. The invariant: after a words, the rest decides by the planes so far. Assumes nothing.
-use Prim.Native.Nat.{_+_, _*_, _-_, _≤_}
+use Prim.Native.Nat.{ℕ, _+_, _*_, _-_, _≤_, _<_}
 use native.Mathlib.Numerals.{add-one}
 use native.Mathlib.Nat.{suc-mul, div-le-self}
 use native.Mathlib.Omega.{arith}
@@ -16,6 +16,7 @@ abbrev Inv-loop : tie.InvT-loop
 Inv-loop i n wanted list config p₀ k at₀ a₀ p at a =
     (a ≤ k)
     × (k ≤ length list)
+    × ((b : ℕ) → b < k → b * n + i < length list)
     × (at ≡ a * n + i)
     × (fromPlanes config (wantedAt wanted i) p₀ (wordsAt n list i) ≡ fromPlanes config (wantedAt wanted i) p (drop a (wordsAt n list i)))
 
@@ -23,29 +24,14 @@ abbrev μ-loop : tie.MeasureT-loop
 μ-loop i n wanted list config p₀ k at₀ a₀ p at a = k - a
 
 loop-holds : tie.Need-loop-holds Inv-loop μ-loop
-loop-holds c = (omega arith, div-le-self _ _, omega arith, refl)
-
-mul-w : tie.Need-mul-w Inv-loop μ-loop
-mul-w c =
-    let s = c .before .before .before .before .before .before .before in
-    omega (arith, place-in (s .args .list .now) (s .args .n) (s .args .i) (c .before .loop .a) (s .pre .0) (omega arith))
-
-shared-slice-read-w : tie.Need-shared-slice-read-w Inv-loop μ-loop
-shared-slice-read-w c =
-    let s = c .before .before .before .before .before .before .before .before in
-    omega (arith, place-in (s .args .list .now) (s .args .n) (s .args .i) (c .before .before .loop .a) (s .pre .0) (omega arith))
+loop-holds c = (omega arith, div-le-self _ _, place-in _ _ _ (c .before .before .before .before .before .pre .0), omega arith, refl)
 
 returns : tie.Need-returns Inv-loop μ-loop
 returns c =
     let s = c .before .before .before .before .before .before .before .before .before .before .args in
     let l = c .before .before .before .before .loop in
     let t = sym (c .before .allowed .ensures) ∙ not-true _ (c .if1 .taken) in
-    sym (words-planes (s .d) _ _ ∙ l .inv .3 ∙ word-refused _ _ (l .p) (s .list .now) (s .n) (s .i) (l .a) (l .at) (omega arith) (l .inv .2) t)
-
-add-at : tie.Need-add-at Inv-loop μ-loop
-add-at c =
-    let s = c .before .before .before .before .before .before .before .before .before .before .before in
-    omega (arith, place-in (s .args .list .now) (s .args .n) (s .args .i) (c .before .before .before .before .before .loop .a) (s .pre .0) (omega arith))
+    sym (words-planes (s .d) _ _ ∙ l .inv .4 ∙ word-refused _ _ (l .p) (s .list .now) (s .n) (s .i) (l .a) (l .at) (omega arith) (l .inv .3) t)
 
 loop-again : tie.Need-loop-again Inv-loop μ-loop
 loop-again c =
@@ -54,15 +40,16 @@ loop-again c =
     let t = sym (c .before .before .allowed .ensures) ∙ not-false _ (c .before .if1 .left) in (
       omega arith,
       l .inv .1,
+      l .inv .2,
       rw add-one (omega (arith, suc-mul (l .a) (s .n))),
-      l .inv .3 ∙ rw (add-one, c .acted .ensures) (word-taken _ _ (l .p) (s .list .now) (s .n) (s .i) (l .a) (l .at) (omega arith) (l .inv .2) t),
+      l .inv .4 ∙ rw (add-one, c .acted .ensures) (word-taken _ _ (l .p) (s .list .now) (s .n) (s .i) (l .a) (l .at) (omega arith) (l .inv .3) t),
     )
 
 returns-2 : tie.Need-returns-2 Inv-loop μ-loop
 returns-2 c =
     let s = c .before .before .before .before .before .before .before .before .args in
     let l = c .before .before .loop in
-    c .same .ensures ∙ sym (words-planes (s .d) _ _ ∙ l .inv .3 ∙ words-done _ _ (l .p) (s .list .now) (s .n) (s .i) (l .a) (omega arith))
+    c .same .ensures ∙ sym (words-planes (s .d) _ _ ∙ l .inv .4 ∙ words-done _ _ (l .p) (s .list .now) (s .n) (s .i) (l .a) (omega arith))
 
 pub own-accepted-spec : {M : Type 1} → statement M
 own-accepted-spec =
@@ -72,12 +59,12 @@ own-accepted-spec =
     μ-loop
     (λ c. search needs)
     loop-holds
-    mul-w
-    shared-slice-read-w
+    (λ c. let l = c .before .loop in omega (arith, l .inv .2 (l .a) (omega arith)))
+    (λ c. let l = c .before .before .loop in omega (arith, l .inv .2 (l .a) (omega arith)))
     (λ c κs. search needs)
     returns
     (λ c κs. search needs)
-    add-at
+    (λ c. let l = c .before .before .before .before .before .loop in omega (arith, l .inv .2 (l .a) (omega arith)))
     (λ c. search needs)
     (λ c. search needs)
     loop-again

@@ -1,0 +1,3 @@
+pub mod WantedLaws
+pub mod CheckLaws
+pub mod ChainLaws

@@ -79,7 +79,7 @@ module _ (n a i : ℕ) (h : i < n) where
   place-mod : (a * n + i) % n ≡ i
   place-mod = mul-add-mod-self-right a n i ∙ mod-eq-of-lt h
 
-  place-lt : (k : ℕ) → a < k → a * n + i < k * n
+  pub place-lt : (k : ℕ) → a < k → a * n + i < k * n
   place-lt k l = omega (arith, mul-le-mul-right n l, suc-mul a n)
 
 -- the words to place i of a list that is given by its elements

@@ -1,0 +1,3 @@
+pub mod WantedLaws
+pub mod Puts
+pub mod Room

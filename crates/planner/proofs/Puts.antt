@@ -1,12 +1,15 @@
 -- Words put one after the other into a list of accesses, and no-ops after them, are a driver's column.
 -- Assumes nothing.
-use Prim.Native.Nat.{ℕ, zero, suc, _+_, _*_, _-_, _≤_}
-use native.Mathlib.Nat.{suc-mul, sub-zero, suc-sub-suc}
+use Prim.Native.Nat.{ℕ, zero, suc, _+_, _*_, _-_, _<_, _≤_}
+use native.Mathlib.Nat.{suc-mul, add-mul, mul-le-mul-right, sub-zero, suc-sub-suc}
 use native.Mathlib.Omega.{arith}
+use native.Mathlib.Decide.{ℕ-discrete}
 use mathlib.Core.List.{List, [], _∷_, _++_}
 use mathlib.Core.Path.{_≡_, refl, _∙_}
 use lib.ListN.{length, getD, set, drop, replicate, length-set}
 use lib.Seq.{getD-drop}
+use Rattle.digits.specs.declared.Planes.{Planes}
+use Rattle.plans.specs.Least.{total, needAt, plain}
 use Rattle.planner.specs.Columns.{column, put}
 
 pub length-put : (ws l : List ℕ) (n at : ℕ) → length (put l n at ws) ≡ length l
@@ -36,3 +39,16 @@ put-column [] l n i zero h = refl
 put-column [] l n i (suc k) h = rw (column-front, sub-zero) (rw sub-zero at (put-column [] (set l i 0) n (i + n) k (omega arith)))
 put-column (w ∷ ws) l n i zero h = absurd (omega arith)
 put-column (w ∷ ws) l n i (suc k) h = rw (column-front, suc-sub-suc) (put-column ws (set l i w) n (i + n) k (omega arith))
+
+-- the words of the digits before one, and its own, are no more than those of all
+grows : (f : ℕ → ℕ) (k m : ℕ) → k < m → total k f + f k ≤ total m f
+unfolding total
+grows f k zero l = absurd (omega arith)
+grows f k (suc m) l = go (grows f k m) (ℕ-discrete k m)
+  where
+    go : (k < m → total k f + f k ≤ total m f) → Dec (k ≡ m) → total k f + f k ≤ total m f + f m
+    go earlier (yes e) = rw e (omega arith)
+    go earlier (no e) = omega (arith, earlier (omega arith))
+
+pub needs-fit : (p q : Planes) (k n : ℕ) → k < 16 → total k (needAt p q) * n + needAt p q k * n ≤ plain p q * n
+needs-fit p q k n h = rw add-mul at (mul-le-mul-right n (grows (needAt p q) k 16 h))

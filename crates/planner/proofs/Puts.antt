@@ -10,6 +10,8 @@ use lib.ListN.{length, getD, set, drop, replicate, length-set}
 use lib.Seq.{getD-drop}
 use Rattle.digits.specs.declared.Planes.{Planes}
 use Rattle.plans.specs.Least.{total, needAt, plain}
+use Rattle.plans.specs.Plan.{steps}
+use Rattle.plans.proofs.Planner.{length-steps}
 use Rattle.planner.specs.Columns.{column, put}
 
 pub length-put : (ws l : List ℕ) (n at : ℕ) → length (put l n at ws) ≡ length l
@@ -25,7 +27,7 @@ put-append (w ∷ ws) vs l n at =
     rw e (put-append ws vs (set l at w) n (at + n))
 
 -- a column's first word apart
-column-front : (l : List ℕ) (n i : ℕ) (ws : List ℕ) (k : ℕ) → column l n i ws (suc k) ≡ column (set l i (getD ws 0 0)) n (i + n) (drop 1 ws) k
+pub column-front : (l : List ℕ) (n i : ℕ) (ws : List ℕ) (k : ℕ) → column l n i ws (suc k) ≡ column (set l i (getD ws 0 0)) n (i + n) (drop 1 ws) k
 unfolding column
 column-front l n i ws zero = let e : 0 * n + i ≡ i = omega arith in rw e
 column-front l n i ws (suc k) =
@@ -33,12 +35,18 @@ column-front l n i ws (suc k) =
     let f : 1 + k ≡ suc k = omega arith in
     rw (e, column-front l n i ws k, getD-drop, f)
 
-pub put-column : (ws l : List ℕ) (n i k : ℕ) → length ws ≤ k → put l n i (ws ++ replicate (k - length ws) 0) ≡ column l n i ws k
+put-column : (ws l : List ℕ) (n i k : ℕ) → length ws ≤ k → put l n i (ws ++ replicate (k - length ws) 0) ≡ column l n i ws k
 unfolding put column
 put-column [] l n i zero h = refl
 put-column [] l n i (suc k) h = rw (column-front, sub-zero) (rw sub-zero at (put-column [] (set l i 0) n (i + n) k (omega arith)))
 put-column (w ∷ ws) l n i zero h = absurd (omega arith)
 put-column (w ∷ ws) l n i (suc k) h = rw (column-front, suc-sub-suc) (put-column ws (set l i w) n (i + n) k (omega arith))
+
+-- the words of all digits, and no-ops after them
+pub put-steps : (p q : Planes) (l : List ℕ) (n i k : ℕ) → plain p q ≤ k
+    → put (put l n i (steps p q 16)) n (i + plain p q * n) (replicate (k - plain p q) 0) ≡ column l n i (steps p q 16) k
+put-steps p q l n i k h =
+    rw (← length-steps p q 16) (rw put-append at (put-column (steps p q 16) l n i k (rw length-steps h)))
 
 -- the words of the digits before one, and its own, are no more than those of all
 grows : (f : ℕ → ℕ) (k m : ℕ) → k < m → total k f + f k ≤ total m f

@@ -1,3 +1,4 @@
 pub mod WantedLaws
 pub mod Puts
 pub mod Room
+pub mod Listed

@@ -3,7 +3,6 @@ use Prim.Native.Nat.{_*_}
 use native.Mathlib.Nat.{le-refl, mul-le-mul}
 use native.Mathlib.Omega.{arith}
 use borrow.Author.Tests.{le-leb}
-use borrow.Author.Needs.{needs}
 use Rattle.planner.proofs.Room.{in-room}
 use Rattle.planner.proofs.in_room.Statement.{statement}
 use Rattle.planner.proofs.in_room.Tie as tie

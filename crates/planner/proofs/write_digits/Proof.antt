@@ -3,12 +3,12 @@ use Prim.Native.Nat.{_+_, _*_, _≤_, _-_}
 use native.Mathlib.Numerals.{add-one}
 use native.Mathlib.Nat.{add-mul}
 use native.Mathlib.Omega.{arith}
-use mathlib.Core.Path.{_≡_, refl, sym, _∙_}
+use mathlib.Core.Path.{_≡_, refl}
 use borrow.Author.Needs.{needs}
 use Rattle.digits.specs.declared.Planes.{Planes}
 use Rattle.plans.specs.Lists.{wantedAt}
 use Rattle.plans.specs.Least.{total, needAt}
-use Rattle.plans.specs.Plan.{digitWordsAt, steps}
+use Rattle.plans.specs.Plan.{steps}
 use Rattle.plans.proofs.Planner.{length-steps}
 use Rattle.planner.specs.Columns.{put}
 use Rattle.planner.proofs.Puts.{length-put, put-append, needs-fit}

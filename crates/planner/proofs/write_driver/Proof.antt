@@ -1,12 +1,11 @@
 -- `planner::write_driver` meets its contract: in room for them, what the driver's words are decides. Assumes nothing.
-use Prim.Native.Nat.{suc, _+_, _*_, _<_, _≤_, _-_, _/_}
+use Prim.Native.Nat.{suc, _*_, _<_, _≤_, _-_, _/_}
 use native.Mathlib.Nat.{suc-mul, mul-le-mul-right}
 use native.Mathlib.Omega.{arith}
 use mathlib.Core.Bool.{true}
 use mathlib.Core.Path.{_≡_, sym, ap, _∙_}
 use lib.ListN.{length, length-set}
 use Rattle.digits.specs.Digits.{cleared}
-use Rattle.digits.specs.declared.Planes.{Planes}
 use Rattle.plans.specs.Lists.{wantedAt}
 use Rattle.plans.proofs.Potential.{least-le}
 use Rattle.planner.proofs.Puts.{length-put}

@@ -2,7 +2,7 @@
 use Prim.Native.Nat.{suc, _+_, _*_, _≤_, _<_, _-_}
 use native.Mathlib.Nat.{suc-mul, sub-zero}
 use native.Mathlib.Omega.{arith}
-use mathlib.Core.Path.{_≡_, refl, sym, ap, _∙_}
+use mathlib.Core.Path.{_≡_, refl}
 use lib.ListN.{length, replicate, length-set}
 use borrow.Author.Needs.{needs}
 use Rattle.planner.specs.Columns.{put}

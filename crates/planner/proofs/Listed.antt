@@ -24,7 +24,7 @@ use Rattle.planner.specs.OneDriver.{fitsIn, listTo}
 length-column : (l : List ℕ) (n i : ℕ) (ws : List ℕ) (k : ℕ) → length (column l n i ws k) ≡ length l
 unfolding column
 length-column l n i ws zero = refl
-length-column l n i ws (suc k) = length-set (column l n i ws k) (k * n + i) (getD ws k 0) ∙ length-column l n i ws k
+length-column l n i ws (suc k) = rw length-set (length-column l n i ws k)
 
 pub length-listed : (ds : List Device) (wanted list : List ℕ) (k m : ℕ) → length (listTo ds wanted list k m) ≡ length list
 unfolding listTo

@@ -1,19 +1,20 @@
--- `planner::write_driver` meets its contract: in room for them, what the driver's words are decides. Assumes nothing.
+-- `planner::write_driver` meets its contract, by the laws of a list with room. Assumes nothing.
 use Prim.Native.Nat.{suc, _*_, _<_, _≤_, _-_, _/_}
 use native.Mathlib.Nat.{suc-mul, mul-le-mul-right}
 use native.Mathlib.Omega.{arith}
 use mathlib.Core.Bool.{true}
 use mathlib.Core.Path.{_≡_, sym, ap, _∙_}
 use lib.ListN.{length, length-set}
+use borrow.Author.Needs.{needs}
 use Rattle.digits.specs.Digits.{cleared}
 use Rattle.plans.specs.Lists.{wantedAt}
 use Rattle.plans.proofs.Potential.{least-le}
 use Rattle.planner.proofs.Puts.{length-put}
 use Rattle.planner.proofs.Room.{inRoom, in-room, not-written, written-kept, written-anew}
-use borrow.Author.Needs.{needs}
 use Rattle.planner.proofs.write_driver.Statement.{statement}
 use Rattle.planner.proofs.write_driver.Tie as tie
 
+-- what is known where the test was passed
 module _ (t : tie.Then1) where
   abbrev start : tie.Start
   start = t .before .before .before .before
@@ -27,11 +28,6 @@ module _ (t : tie.Then1) where
 
 add-if2 : tie.Need-add-if2
 add-if2 c = let a = start (c .before .before .before .before) .args in omega (arith, least-le cleared (wantedAt (a .wanted .now) (a .i)))
-
-write-words-requires : tie.Need-write-words-requires
-write-words-requires c κs =
-    let t = c .before .before .before .before .before .before .before in
-    omega (arith, room t)
 
 slice-write-list : tie.Need-slice-write-list
 slice-write-list c =
@@ -80,7 +76,7 @@ write-driver-spec =
     (λ c κs. omega (arith, room (c .before .before)))
     (λ c κs. omega (arith, room (c .before .before .before)))
     add-if2
-    write-words-requires
+    (λ c κs. omega (arith, room (c .before .before .before .before .before .before .before)))
     (λ c κs. search needs)
     (λ c. omega (arith, room (c .before .before .before .before .before .before .before)))
     slice-write-list

@@ -1,4 +1,4 @@
--- `planner::write_words` meets its contract. Assumes nothing.
+-- `planner::write_words` meets its contract: what is left has room after the digits' words. Assumes nothing.
 use Prim.Native.Nat.{_*_, _-_, _+_}
 use native.Mathlib.Nat.{add-mul, mul-le-mul-right, sub-add-cancel}
 use native.Mathlib.Omega.{arith}

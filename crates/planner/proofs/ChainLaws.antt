@@ -28,7 +28,7 @@ unfolding accesses
 reach-accesses ds wanted z = largest-ext (length ds) _ _ (λ i h. rw (wanted-in ds wanted z i h))
 
 pub accept-list : (ds : List Device) (wanted list : List ℕ) → length ds ≤ 16 → length wanted ≡ 32 * length ds
-    → (eqb (length list % length ds) 0 && acceptTo ds wanted list (length ds)) ≡ acceptedList ds wanted list
+    → (eqb (length list % length ds) 0 && acceptTo ds (length ds) wanted list (length ds)) ≡ acceptedList ds wanted list
 unfolding acceptedList
 accept-list ds wanted list s z =
     ap (λ (b : Bool). eqb (length list % length ds) 0 && b)

@@ -1,2 +1,3 @@
+pub mod BytesLaws
 pub mod OnWire
 pub mod Passes

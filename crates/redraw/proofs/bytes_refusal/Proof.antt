@@ -32,10 +32,10 @@ returns-3 : tie.Need-returns-3
 returns-3 c = let a = start (c .before) .args in simp (some (c .before), few (c .before), lacks (a .n) (a .words) (a .access) (omega arith) (omega arith))
 
 returns-4 : tie.Need-returns-4
-returns-4 c = simp (some (c .before .before), few (c .before .before), there (c .before), lt-ltb _ _ (c .if4 .taken))
+returns-4 c = let a = start (c .before .before) .args in simp (some (c .before .before), few (c .before .before), there (c .before), lt-ltb (a .room) (2 * a .n) (omega arith))
 
 returns-5 : tie.Need-returns-5
-returns-5 c = simp (some (c .before .before), few (c .before .before), there (c .before), le-ltb _ _ (c .if4 .left))
+returns-5 c = let a = start (c .before .before) .args in simp (some (c .before .before), few (c .before .before), there (c .before), le-ltb (a .room) (2 * a .n) (omega arith))
 
 pub bytes-refusal-spec : {M : Type 1} → statement M
 bytes-refusal-spec = tie.close (tie.spec (λ c. rw (c .if1 .taken)) returns-2 (λ c. search needs) returns-3 (λ c. search needs) returns-4 returns-5)

@@ -1,10 +1,10 @@
 -- `redraw::plan_bytes` meets its contract. Assumes nothing.
 use Prim.Native.Nat.{_+_, _*_, _≤_}
 use native.Mathlib.Omega.{arith}
-use mathlib.Core.Path.{_≡_, refl, sym, _∙_}
+use mathlib.Core.Path.{_≡_, sym, _∙_}
 use lib.ListN.{length}
 use borrow.Author.Needs.{needs}
-use borrow.Author.Tests.{eq-eqb, ne-eqb}
+use borrow.Author.Tests.{ne-eqb}
 use Rattle.redraw.specs.PlanBytes.{bytesNumber}
 use Rattle.redraw.proofs.BytesLaws.{bytes-served}
 use Rattle.redraw.proofs.plan_bytes.Statement.{statement}

@@ -1,4 +1,6 @@
 // The blink count of a MAX6954: master clocks, the phase, the plane shown, and a part of it from two lent planes.
+ghost use Prim.Native.Nat.{_*_, _%_, _^_, _<_};
+ghost use mathlib.Core.Bool.{true};
 ghost use mathlib.Core.Path.{_≡_};
 ghost use Rattle.refusals.specs.Refusals.{planeRefusal};
 ghost use Rattle.blink.specs.Blink.{advanced, restarted, phaseAt, shownAt};
@@ -7,12 +9,35 @@ ghost use Rattle.blink.specs.Phases.{Phases};
 ghost use Rattle.blink.specs.PartDigits.{PartDigits};
 use words::Plane;
 
-// Master clocks added to a count.
+// What is left of a sum of clocks when whole cycles of 4,000,000 are taken off, 2^11 of them where so many fit, 2^10, and so on down to one.
+fn in_cycle(sum: u64) -> u64
+    requires { ⌜ sum < 4000000 * 2 ^ 12 ⌝ }
+    ensures { λ r. ⌜ r ≡ sum % 4000000 ⌝ }
+{
+    let mut left = sum;
+    let mut k: u32 = 12;
+    while 0 < k {
+        k -= 1;
+        let cycles = 4000000 << k;
+        if cycles <= left {
+            left -= cycles;
+        }
+    }
+    left
+}
+
+// Master clocks added to a count; where they make less than two cycles, one comparison or two tell what is left.
 pub fn advanced(count: u32, clocks: u32) -> u32
     ensures { λ r. ⌜ r ≡ advanced count clocks ⌝ }
 {
     let sum = count as u64 + clocks as u64;
-    (sum % 4000000) as u32
+    if sum < 4000000 {
+        return sum as u32;
+    }
+    if sum < 8000000 {
+        return (sum - 4000000) as u32;
+    }
+    in_cycle(sum) as u32
 }
 
 // A count, or 0 where it is restarted.
@@ -22,16 +47,30 @@ pub fn restarted(count: u32, restart: bool) -> u32
     if restart { 0 } else { count }
 }
 
+// The fast phase of a count below 4,000,000: P0 in the first and in the third quarter.
+fn fast_phase(count: u32) -> Plane
+    requires { ⌜ count < 4000000 ⌝ }
+    ensures { λ r. ⌜ r ≡ phaseAt count true ⌝ }
+{
+    if count < 1000000 {
+        return Plane::P0;
+    }
+    if count < 2000000 {
+        return Plane::P1;
+    }
+    if count < 3000000 {
+        Plane::P0
+    } else {
+        Plane::P1
+    }
+}
+
 // The phase, slow or fast.
 pub fn phase(count: u32, fast: bool) -> Plane
     ensures { λ r. ⌜ r ≡ phaseAt count fast ⌝ }
 {
     if fast {
-        if count % 2000000 < 1000000 {
-            Plane::P0
-        } else {
-            Plane::P1
-        }
+        fast_phase(advanced(count, 0))
     } else {
         if count < 2000000 {
             Plane::P0

@@ -1,13 +1,25 @@
 -- `blink::phase` meets its contract. Assumes nothing.
+use Prim.Native.Nat.{_+_, _%_}
+use native.Mathlib.Omega.{arith}
+use mathlib.Core.Path.{_≡_}
+use borrow.Author.Needs.{needs}
 use Rattle.ground.proofs.Tests.{tests}
 use Rattle.blink.proofs.phase.Statement.{statement}
 use Rattle.blink.proofs.phase.Tie as tie
 
+-- a count brought below a cycle is in the same half of the fast period
 returns : tie.Need-returns
-returns c = rw (c .before .if1 .taken) (search tests)
-
-returns-2 : tie.Need-returns-2
-returns-2 c = rw (c .before .if1 .taken) (search tests)
+returns c =
+    let n = c .before .before .before .args .count in
+    let e : (n + 0) % 4000000 % 2000000 ≡ n % 2000000 = omega arith in
+    rw (c .before .before .if1 .taken, ← e) (rw (c .before .advanced .ensures) at (c .fast-phase .ensures))
 
 pub phase-spec : {M : Type 1} → statement M
-phase-spec = tie.close (tie.spec returns returns-2 (λ c. rw (c .before .if1 .left) (search tests)) (λ c. rw (c .before .if1 .left) (search tests)))
+phase-spec =
+    tie.close
+    (tie.spec
+    (λ c κs. search needs)
+    (λ c κs. omega (arith, c .advanced .ensures))
+    returns
+    (λ c. rw (c .before .if1 .left) (search tests))
+    (λ c. rw (c .before .if1 .left) (search tests)))

@@ -3,13 +3,14 @@
 use Prim.Native.Nat.{ℕ, _<_, _≤_}
 use native.Mathlib.Omega.{arith}
 use mathlib.Core.Bool.{true, false, or-true}
-use mathlib.Core.List.{map}
+use mathlib.Core.List.{[], _∷_, map}
 use mathlib.Core.Path.{_≡_, refl}
 use borrow.Author.Tests.{lt-ltb, le-ltb}
 use Rattle.ground.specs.Choice.{odd}
 use Rattle.device.specs.declared.Device.{Device}
 use Rattle.brightness.specs.Dark.{testOn, dark}
-use Rattle.brightness.specs.Brightness.{ownNibble, sixteenths, brightnessOf, brightnessAnswer}
+use Rattle.brightness.specs.Brightness.{ownNibble, sixteenths, ruledTo, cathodeOf, brightnessOf, rulerOf, rulerCode, brightnessAnswer}
+use Rattle.brightness.specs.declared.Ruler.the-variants.{Global, Own, Test}
 use Rattle.brightness.specs.Tables.{sixteenNumbers, table26, table27, BrightnessTables}
 
 to-the-limit : (x : Device) (d : ℕ) → testOn x ≡ false → odd (x .registers .config .s) ≡ true → d ≤ x .registers .controls .limit → dark x d ≡ false
@@ -33,18 +34,36 @@ duty-cycles = refl
 own-nibbles : map (ownNibble table27) sixteenNumbers ≡ sixteenNumbers
 own-nibbles = refl
 
+dark-digit : (x : Device) (i : ℕ) → dark x (cathodeOf i) ≡ true → brightnessOf x i ≡ 0
+dark-digit x i d = rw d
+
+lit-digit : (x : Device) (i : ℕ) → dark x (cathodeOf i) ≡ false → brightnessOf x i ≡ ruledTo x i
+lit-digit x i d = rw d
+
+cathodes : map cathodeOf sixteenNumbers ≡ 0 ∷ 1 ∷ 2 ∷ 3 ∷ 4 ∷ 5 ∷ 6 ∷ 7 ∷ 0 ∷ 1 ∷ 2 ∷ 3 ∷ 4 ∷ 5 ∷ 6 ∷ 7 ∷ []
+cathodes = refl
+
+test-rules : (x : Device) → testOn x ≡ true → rulerOf x ≡ Test
+test-rules x t = rw t
+
+own-rules : (x : Device) → testOn x ≡ false → odd (x .registers .config .i) ≡ true → rulerOf x ≡ Own
+own-rules x t i = rw (t, i)
+
+global-rules : (x : Device) → testOn x ≡ false → odd (x .registers .config .i) ≡ false → rulerOf x ≡ Global
+global-rules x t i = rw (t, i)
+
 by-nibbles : (x y : Device) (i : ℕ)
     → x .registers .controls .test ≡ y .registers .controls .test
     → x .registers .config .i ≡ y .registers .config .i
     → x .registers .controls .global ≡ y .registers .controls .global
     → x .registers .intensities ≡ y .registers .intensities
-    → brightnessOf x i ≡ brightnessOf y i
+    → ruledTo x i ≡ ruledTo y i
 by-nibbles x y i t c g n = simp (t, c, g, n)
 
-refused : (x : Device) (i : ℕ) → 15 < i → brightnessAnswer x i ≡ record { number = 6; sixteenths = 0 }
+refused : (x : Device) (i : ℕ) → 15 < i → brightnessAnswer x i ≡ record { number = 6; sixteenths = 0; ruler = 0 }
 refused x i h = rw (le-ltb i 16 (omega arith))
 
-answered : (x : Device) (i : ℕ) → i ≤ 15 → brightnessAnswer x i ≡ record { number = 0; sixteenths = brightnessOf x i }
+answered : (x : Device) (i : ℕ) → i ≤ 15 → brightnessAnswer x i ≡ record { number = 0; sixteenths = brightnessOf x i; ruler = rulerCode (rulerOf x) }
 answered x i h = rw (lt-ltb i 16 (omega arith))
 
 pub tabled : BrightnessTables
@@ -57,6 +76,12 @@ tabled =
       seven-in-test = seven-in-test;
       duty-cycles = duty-cycles;
       own-nibbles = own-nibbles;
+      dark-digit = dark-digit;
+      lit-digit = lit-digit;
+      cathodes = cathodes;
+      test-rules = test-rules;
+      own-rules = own-rules;
+      global-rules = global-rules;
       by-nibbles = by-nibbles;
       refused = refused;
       answered = answered;

@@ -1,4 +1,4 @@
--- Believed: document 01, "Segments and brightness": dark cathodes and brightness beside Tables 25 to 29 and the display test section of 000.
+-- Believed: document 01, "Segments and brightness", and document 02, request 5: dark cathodes and brightness beside Tables 25 to 29 and the display test section of 000.
 -- Assumes nothing.
 use Prim.Native.Nat.{ℕ, _<_, _≤_}
 use mathlib.Core.Bool.{true, false}
@@ -7,7 +7,8 @@ use mathlib.Core.Path.{_≡_}
 use Rattle.ground.specs.Choice.{odd}
 use Rattle.device.specs.declared.Device.{Device}
 use Rattle.brightness.specs.Dark.{testOn, dark}
-use Rattle.brightness.specs.Brightness.{ownNibble, sixteenths, brightnessOf, brightnessAnswer}
+use Rattle.brightness.specs.Brightness.{ownNibble, sixteenths, ruledTo, cathodeOf, brightnessOf, rulerOf, rulerCode, brightnessAnswer}
+use Rattle.brightness.specs.declared.Ruler.the-variants.{Global, Own, Test}
 
 -- the nibbles 0 to F, and the digits 0 to 7, 0a to 7a
 abbrev pub sixteenNumbers : List ℕ
@@ -35,13 +36,21 @@ pub record BrightnessTables : Type 0 where
   pub duty-cycles : map sixteenths sixteenNumbers ≡ table26
   -- Table 27: each digit by its own nibble
   pub own-nibbles : map (ownNibble table27) sixteenNumbers ≡ sixteenNumbers
-  -- by display test, I, the global nibble and the digit's own alone: this doesn't depend on darkness
+  -- request 5: a digit of a dark cathode has 0, and each other one what its ruler gives; an "a" digit has its cathode's darkness
+  pub dark-digit : (x : Device) (i : ℕ) → dark x (cathodeOf i) ≡ true → brightnessOf x i ≡ 0
+  pub lit-digit : (x : Device) (i : ℕ) → dark x (cathodeOf i) ≡ false → brightnessOf x i ≡ ruledTo x i
+  pub cathodes : map cathodeOf sixteenNumbers ≡ 0 ∷ 1 ∷ 2 ∷ 3 ∷ 4 ∷ 5 ∷ 6 ∷ 7 ∷ 0 ∷ 1 ∷ 2 ∷ 3 ∷ 4 ∷ 5 ∷ 6 ∷ 7 ∷ []
+  -- what rules: display test over I, then I=1 the digit's own, I=0 the global register, dark or not
+  pub test-rules : (x : Device) → testOn x ≡ true → rulerOf x ≡ Test
+  pub own-rules : (x : Device) → testOn x ≡ false → odd (x .registers .config .i) ≡ true → rulerOf x ≡ Own
+  pub global-rules : (x : Device) → testOn x ≡ false → odd (x .registers .config .i) ≡ false → rulerOf x ≡ Global
+  -- what it gives, by display test, I, the global nibble and the digit's own alone
   pub by-nibbles : (x y : Device) (i : ℕ)
       → x .registers .controls .test ≡ y .registers .controls .test
       → x .registers .config .i ≡ y .registers .config .i
       → x .registers .controls .global ≡ y .registers .controls .global
       → x .registers .intensities ≡ y .registers .intensities
-      → brightnessOf x i ≡ brightnessOf y i
-  -- digits above 15 are refused: a refused answer holds 0
-  pub refused : (x : Device) (i : ℕ) → 15 < i → brightnessAnswer x i ≡ record { number = 6; sixteenths = 0 }
-  pub answered : (x : Device) (i : ℕ) → i ≤ 15 → brightnessAnswer x i ≡ record { number = 0; sixteenths = brightnessOf x i }
+      → ruledTo x i ≡ ruledTo y i
+  -- digits above 15 are refused: a refused answer holds 0 and names nothing
+  pub refused : (x : Device) (i : ℕ) → 15 < i → brightnessAnswer x i ≡ record { number = 6; sixteenths = 0; ruler = 0 }
+  pub answered : (x : Device) (i : ℕ) → i ≤ 15 → brightnessAnswer x i ≡ record { number = 0; sixteenths = brightnessOf x i; ruler = rulerCode (rulerOf x) }

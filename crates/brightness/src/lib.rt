@@ -1,15 +1,24 @@
-// Which cathodes of a MAX6954 are dark, and the brightness of each digit.
+// Which cathodes of a MAX6954 are dark, and the brightness of each digit with what rules it.
 ghost use mathlib.Core.Path.{_≡_};
 ghost use Rattle.brightness.specs.Dark.{dark};
-ghost use Rattle.brightness.specs.Brightness.{ownNibble, nibbleOf, sixteenths, brightnessOf, brightnessAnswer};
+ghost use Rattle.brightness.specs.Brightness.{ownNibble, nibbleOf, sixteenths, ruledTo, brightnessOf, rulerOf, rulerCode, brightnessAnswer};
 ghost use Rattle.brightness.specs.Tables.{BrightnessTables};
 use device::Device;
 
-// An answer: its number, and the brightness in sixteenths.
+// What rules the brightness of a digit: nothing where refused, the global register, the digit's own nibble, display test.
+pub enum Ruler {
+    Nothing,
+    Global,
+    Own,
+    Test,
+}
+
+// An answer: its number, the brightness in sixteenths, and the number of what rules it.
 #[repr(C)]
 pub struct BrightnessAnswer {
     pub number: u8,
     pub sixteenths: u8,
+    pub ruler: u8,
 }
 
 // A cathode is dark.
@@ -50,9 +59,9 @@ fn sixteenths(v: u8) -> u8
     if v < 14 { v + 1 } else { 15 }
 }
 
-// The brightness of a digit; 7 in display test.
-fn digit_sixteenths(device: Device, digit: u8) -> u8
-    ensures { λ r. ⌜ r ≡ brightnessOf device digit ⌝ }
+// The sixteenths that a digit's ruler gives it; 7 in display test.
+fn ruled_to(device: Device, digit: u8) -> u8
+    ensures { λ r. ⌜ r ≡ ruledTo device digit ⌝ }
 {
     let controls = device.registers.controls;
     if controls.test % 2 == 1 {
@@ -63,7 +72,45 @@ fn digit_sixteenths(device: Device, digit: u8) -> u8
     }
 }
 
-// The brightness of a digit, 0 to 7 and then 0a to 7a; a digit above 15 is refused.
+// The brightness of a digit: 0 where its cathode is dark.
+fn digit_sixteenths(device: Device, digit: u8) -> u8
+    ensures { λ r. ⌜ r ≡ brightnessOf device digit ⌝ }
+{
+    if is_dark(device, (digit % 8) as usize) {
+        0
+    } else {
+        ruled_to(device, digit)
+    }
+}
+
+// What rules a digit, lit or dark.
+fn ruled_by(device: Device) -> Ruler
+    ensures { λ r. ⌜ r ≡ rulerOf device ⌝ }
+{
+    let controls = device.registers.controls;
+    let config = device.registers.config;
+    if controls.test % 2 == 1 {
+        Ruler::Test
+    } else if config.i % 2 == 1 {
+        Ruler::Own
+    } else {
+        Ruler::Global
+    }
+}
+
+// The number of what rules.
+fn ruler_code(ruler: Ruler) -> u8
+    ensures { λ r. ⌜ r ≡ rulerCode ruler ⌝ }
+{
+    match ruler {
+        Ruler::Nothing => 0,
+        Ruler::Global => 1,
+        Ruler::Own => 2,
+        Ruler::Test => 3,
+    }
+}
+
+// The brightness of a digit, 0 to 7 and then 0a to 7a, and what rules it; a digit above 15 is refused.
 pub fn brightness(device: Device, digit: usize) -> BrightnessAnswer
     ensures { λ r. ⌜ r ≡ brightnessAnswer device digit ⌝ }
 {
@@ -71,11 +118,13 @@ pub fn brightness(device: Device, digit: usize) -> BrightnessAnswer
         BrightnessAnswer {
             number: 0,
             sixteenths: digit_sixteenths(device, digit as u8),
+            ruler: ruler_code(ruled_by(device)),
         }
     } else {
         BrightnessAnswer {
             number: 6,
             sixteenths: 0,
+            ruler: 0,
         }
     }
 }

@@ -1,14 +1,14 @@
 -- `brightness::digit_sixteenths` meets its contract. Assumes nothing.
-use Rattle.ground.proofs.Tests.{tests}
+use mathlib.Core.Path.{sym, _∙_}
 use borrow.Author.Needs.{needs}
 use Rattle.brightness.proofs.digit_sixteenths.Statement.{statement}
 use Rattle.brightness.proofs.digit_sixteenths.Tie as tie
 
-returns-2 : tie.Need-returns-2
-returns-2 c = simp (c .before .nibble .ensures, c .sixteenths .ensures) (search tests)
-
 returns : tie.Need-returns
-returns c = search tests
+returns c = rw (sym (c .before .is-dark .ensures) ∙ c .if1 .taken)
+
+returns-2 : tie.Need-returns-2
+returns-2 c = rw (sym (c .before .before .is-dark .ensures) ∙ c .before .if1 .left) (c .ruled-to .ensures)
 
 pub digit-sixteenths-spec : {M : Type 1} → statement M
-digit-sixteenths-spec = tie.close (tie.spec (λ c κs. search needs) (λ c κs. search needs) returns returns-2)
+digit-sixteenths-spec = tie.close (tie.spec (λ c. search needs) (λ c κs. search needs) (λ c κs. search needs) returns returns-2)

@@ -1,7 +1,8 @@
 // The blink count of a MAX6954: master clocks, the phase, the plane shown, and a part of it from two lent planes.
-ghost use Prim.Native.Nat.{_*_, _%_, _^_, _<_};
+ghost use Prim.Native.Nat.{_*_, _%_, _^_, _<_, _≤_};
 ghost use mathlib.Core.Bool.{true};
 ghost use mathlib.Core.Path.{_≡_};
+ghost use Rattle.ground.specs.Choice.{odd};
 ghost use Rattle.refusals.specs.Refusals.{planeRefusal};
 ghost use Rattle.blink.specs.Blink.{advanced, restarted, phaseAt, shownAt};
 ghost use Rattle.blink.specs.Part.{planePart};
@@ -9,13 +10,13 @@ ghost use Rattle.blink.specs.Phases.{Phases};
 ghost use Rattle.blink.specs.PartDigits.{PartDigits};
 use words::Plane;
 
-// What is left of a sum of clocks when whole cycles of 4,000,000 are taken off, 2^11 of them where so many fit, 2^10, and so on down to one.
-fn in_cycle(sum: u64) -> u64
-    requires { ⌜ sum < 4000000 * 2 ^ 12 ⌝ }
-    ensures { λ r. ⌜ r ≡ sum % 4000000 ⌝ }
+// What is left of clocks when whole cycles of 4,000,000 are taken off in so many steps: where they fit, half of all that would be too many, then half as many.
+fn in_cycle(clocks: u64, steps: u32) -> u64
+    requires { ⌜ (steps ≤ 12) × (clocks < 4000000 * 2 ^ steps) ⌝ }
+    ensures { λ r. ⌜ r ≡ clocks % 4000000 ⌝ }
 {
-    let mut left = sum;
-    let mut k: u32 = 12;
+    let mut left = clocks;
+    let mut k = steps;
     while 0 < k {
         k -= 1;
         let cycles = 4000000 << k;
@@ -26,18 +27,33 @@ fn in_cycle(sum: u64) -> u64
     left
 }
 
-// Master clocks added to a count; where they make less than two cycles, one comparison or two tell what is left.
+// What is left of 32 bits of clocks.
+fn clocks_in_cycle(clocks: u32) -> u64
+    ensures { λ r. ⌜ r ≡ clocks % 4000000 ⌝ }
+{
+    if clocks < 4000000 {
+        return clocks as u64;
+    }
+    in_cycle(clocks as u64, 11)
+}
+
+// Master clocks added to a count, in at most 12 steps. Where the count is below a cycle, the clocks are brought below one before they are added, so
+// that calls in a row don't wait for each other's steps.
 pub fn advanced(count: u32, clocks: u32) -> u32
     ensures { λ r. ⌜ r ≡ advanced count clocks ⌝ }
 {
-    let sum = count as u64 + clocks as u64;
-    if sum < 4000000 {
-        return sum as u32;
+    if 4000000 <= count {
+        return in_cycle(count as u64 + clocks as u64, 12) as u32;
     }
-    if sum < 8000000 {
-        return (sum - 4000000) as u32;
-    }
-    in_cycle(sum) as u32
+    let more = clocks_in_cycle(clocks);
+    in_cycle(count as u64 + more, 1) as u32
+}
+
+// The lowest bit of a byte.
+pub fn is_set(v: u8) -> bool
+    ensures { λ r. ⌜ r ≡ odd v ⌝ }
+{
+    v & 1 == 1
 }
 
 // A count, or 0 where it is restarted.

@@ -172,7 +172,11 @@ impl Device {
         ensures { λ r. ⌜ r ≡ shownPlane self ⌝ }
     {
         let config = self.registers.config;
-        blink::shown(self.registers.blink, config.b % 2 == 1, config.e % 2 == 1)
+        blink::shown(
+            self.registers.blink,
+            blink::is_set(config.b),
+            blink::is_set(config.e),
+        )
     }
 
     // Whether every field fits its register's width, the blink count is below 4,000,000 and the answer mark is 0 or 1.

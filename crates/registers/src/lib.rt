@@ -96,7 +96,7 @@ impl Registers {
     fn phase(self) -> Plane
         ensures { λ r. ⌜ r ≡ phaseOf self ⌝ }
     {
-        blink::phase(self.blink, self.config.b % 2 == 1)
+        blink::phase(self.blink, blink::is_set(self.config.b))
     }
 
     // The GPIO data register as read.

@@ -1,4 +1,4 @@
--- `blink::in_cycle` meets its contract. The invariant: what is left is below 2^k cycles, and has the sum's remainder. Assumes nothing.
+-- `blink::in_cycle` meets its contract. The invariant: what is left is below 2^k cycles, and has the same remainder. Assumes nothing.
 use Prim.Native.Nat.{ℕ, suc, _*_, _-_, _%_, _^_, _<_, _≤_}
 use native.Mathlib.Nat.{pow-suc, mod-eq-of-lt}
 use native.Mathlib.Omega.{arith}
@@ -9,10 +9,10 @@ use Rattle.blink.proofs.in_cycle.Statement.{statement}
 use Rattle.blink.proofs.in_cycle.Tie as tie
 
 abbrev Inv-loop : tie.InvT-loop
-Inv-loop sum left₀ k₀ left k = (k ≤ 12) × (left < 4000000 * 2 ^ k) × (left % 4000000 ≡ sum % 4000000)
+Inv-loop clocks steps left₀ k₀ left k = (k ≤ 12) × (left < 4000000 * 2 ^ k) × (left % 4000000 ≡ clocks % 4000000)
 
 abbrev μ-loop : tie.MeasureT-loop
-μ-loop sum left₀ k₀ left k = k
+μ-loop clocks steps left₀ k₀ left k = k
 
 -- 2^k cycles are twice as many as 2^(k - 1), which fit 64 bits
 cycles : (k : ℕ) → 0 < k → k ≤ 12 → (2 ^ k ≡ 2 ^ (k - 1) * 2) × (4000000 * 2 ^ (k - 1) % 18446744073709551616 ≡ 4000000 * 2 ^ (k - 1))

@@ -1,0 +1,7 @@
+-- `registers::Registers::phase` meets its contract. Assumes nothing.
+use borrow.Author.Needs.{needs}
+use Rattle.registers.proofs.Registers.phase.Statement.{statement}
+use Rattle.registers.proofs.Registers.phase.Tie as tie
+
+pub phase-spec : {M : Type 1} → statement M
+phase-spec = tie.close (tie.spec (λ c κs. search needs) (λ c κs. search needs) (λ c. rw (c .before .is-set .ensures) at (c .phase .ensures)))

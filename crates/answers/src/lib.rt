@@ -43,11 +43,12 @@ pub fn segments_refused(number: u8, cathode: usize, font14: &[u16], font16: &[u1
 }
 
 pub fn brightness_refused(number: u8, digit: usize) -> BrightnessAnswer
-    ensures { λ r. ⌜ r ≡ record { number = number; sixteenths = 0 } ⌝ }
+    ensures { λ r. ⌜ r ≡ record { number = number; sixteenths = 0; ruler = 0 } ⌝ }
 {
     BrightnessAnswer {
         number: number,
         sixteenths: 0,
+        ruler: 0,
     }
 }
 

@@ -146,7 +146,7 @@ answerRows =
     ∷ (reply (ask 1 (plane lent other 2 4)) (withBlink (taken powerUp 0x0409) 2000000 ∷ []), 18 ∷ 19 ∷ 20 ∷ [])
     ∷ (reply (ask 1 (plane lent other 15 15)) (freshChain 1), 15 ∷ [])
     -- refused: an answer that would hold a number holds 0, a segment answer has no pin driven, a returned part is empty
-    ∷ (reply (ask 1 (brightness 16)) (freshChain 1) ++ reply (ask 2 shown) (freshChain 1) ++ reply (ask 2 interrupt) (freshChain 1) ++ reply (ask 2 answerMark) (withMark powerUp 1 ∷ []), 0 ∷ 0 ∷ 0 ∷ 0 ∷ [])
+    ∷ (reply (ask 1 (brightness 16)) (freshChain 1) ++ reply (ask 2 shown) (freshChain 1) ++ reply (ask 2 interrupt) (freshChain 1) ++ reply (ask 2 answerMark) (withMark powerUp 1 ∷ []), 0 ∷ 0 ∷ 0 ∷ 0 ∷ 0 ∷ [])
     ∷ (reply (ask 1 (segments 8 font font)) (freshChain 1), replicate 19 0)
     ∷ (reply (ask 1 (plane lent lent 5 4)) (freshChain 1), [])
     -- nothing changes: neither the room nor the record

@@ -15,7 +15,8 @@ use Rattle.device.specs.Record.{withPins}
 use Rattle.device.specs.Taken.{taken}
 use Rattle.device.specs.Steps.{scanned, clocked, shownPlane}
 use Rattle.device.specs.declared.Device.{Device}
-use Rattle.brightness.specs.Brightness.{brightnessOf}
+use Rattle.brightness.specs.Brightness.{brightnessOf, rulerOf, rulerCode}
+use Rattle.brightness.specs.declared.Ruler.the-variants.{Nothing}
 use Rattle.plans.specs.Check.{acceptedList}
 use Rattle.plans.specs.Plan.{accesses, planned}
 use Rattle.display.specs.Pins.{pinCode, segmentsOf}
@@ -49,22 +50,22 @@ abbrev pub planeCode : Plane → ℕ
 planeCode P0 = 0
 planeCode P1 = 1
 
--- what a driver answers, from its record and what is lent: the part, the 19 pins, the sixteenths, the plane shown, the interrupt, the answer mark
+-- what a driver answers, from its record and what is lent: the part, the 19 pins, the sixteenths and what rules them, the plane shown, the interrupt, the answer mark
 abbrev pub answerTo : Question → Device → List ℕ
 answerTo (plane p0 p1 first last) x = planePart (shownPlane x) p0 p1 first last
 answerTo (planeShown p0 p1 first last) x = planeCode (shownPlane x) ∷ []
 answerTo (segments d font14 font16) x = segmentsOf x d font14 font16 .pins
-answerTo (brightness i) x = brightnessOf x i ∷ []
+answerTo (brightness i) x = brightnessOf x i ∷ rulerCode (rulerOf x) ∷ []
 answerTo shown x = planeCode (shownPlane x) ∷ []
 answerTo interrupt x = x .registers .keys .interrupt ∷ []
 answerTo answerMark x = x .«answer_mark» ∷ []
 
--- a refused answer: the part is empty, no pin is driven, a number is 0
+-- a refused answer: the part is empty, no pin is driven, nothing rules, a number is 0
 abbrev pub refusedTo : Question → List ℕ
 refusedTo (plane p0 p1 first last) = []
 refusedTo (planeShown p0 p1 first last) = 0 ∷ []
 refusedTo (segments d font14 font16) = tabulate 19 (λ p. pinCode NotDriven)
-refusedTo (brightness i) = 0 ∷ []
+refusedTo (brightness i) = 0 ∷ rulerCode Nothing ∷ []
 refusedTo shown = 0 ∷ []
 refusedTo interrupt = 0 ∷ []
 refusedTo answerMark = 0 ∷ []

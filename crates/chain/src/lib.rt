@@ -179,14 +179,14 @@ pub extern "C" fn max6954_segments(
     display::segments(chain[at], cathode, font14, font16)
 }
 
-// The brightness of a digit of one driver.
+// The brightness of a digit of one driver, and what rules it.
 #[no_mangle]
 pub extern "C" fn max6954_brightness(
     chain: &[Device],
     driver: usize,
     digit: usize,
 ) -> BrightnessAnswer
-    ensures { λ r. ⌜ outcome (ask driver (brightness digit)) (now (chain .entry)) ≡ record { number = r .number; records = now (chain .entry); back = r .sixteenths ∷ [] } ⌝ }
+    ensures { λ r. ⌜ outcome (ask driver (brightness digit)) (now (chain .entry)) ≡ record { number = r .number; records = now (chain .entry); back = r .sixteenths ∷ r .ruler ∷ [] } ⌝ }
 {
     let own = pass::brightness_refusal(digit);
     let number = lent::call_refusal(chain, driver, own);

@@ -13,7 +13,7 @@ use Rattle.device.specs.declared.Device.{Device}
 use Rattle.ground.specs.Choice.{if}
 use Rattle.wiring.specs.Segments.{Segment, a1, a2, b, dp, 1a, 1b, 1c, 1d, 1e, 1f, 1g, 1dp, 2a, 2b, 2c, 2d, 2e, 2f}
 use Rattle.wiring.specs.Wiring.{Wire, cathode, notDriven, carries, wireAt}
-use Rattle.brightness.specs.Brightness.{brightnessOf}
+use Rattle.brightness.specs.Brightness.{brightnessOf, rulerOf, rulerCode}
 use Rattle.display.specs.Cathode.{displayOf}
 use Rattle.display.specs.Pins.{pinCode, pinAt, lit}
 use Rattle.display.specs.declared.Pin.the-variants.{NotDriven, Cathode, Lit, Unlit, NoSegment}
@@ -99,8 +99,16 @@ segmentRows =
     ∷ (map (λ n. brightnessOf (afterWords powerUp (0x0701 ∷ (0x0200 + n) ∷ [])) 0) (0x0 ∷ 0xF ∷ []), 7 ∷ 7 ∷ [])
     -- 0x13 holds digits 6 and 7, the odd one in the high nibble
     ∷ (map (λ i. brightnessOf (afterWords powerUp (0x0441 ∷ 0x1321 ∷ [])) i) (5 ∷ 6 ∷ 7 ∷ 14 ∷ []), 1 ∷ 2 ∷ 3 ∷ 1 ∷ [])
-    -- brightness doesn't depend on darkness: in shutdown, and above the scan limit
-    ∷ (map (λ i. brightnessOf (afterWords powerUp (0x020A ∷ 0x0300 ∷ [])) i) (0 ∷ 7 ∷ []), 11 ∷ 11 ∷ [])
+    -- request 5: digits of dark cathodes have 0, in shutdown and above a scan limit of 3, "a" digits too; test lights all
+    ∷ (map (λ i. brightnessOf (taken powerUp 0x020A) i) (0 ∷ 7 ∷ 8 ∷ 15 ∷ []), 0 ∷ 0 ∷ 0 ∷ 0 ∷ [])
+    ∷ (map (λ i. brightnessOf (afterWords powerUp (0x0401 ∷ 0x020A ∷ 0x0303 ∷ [])) i) (3 ∷ 4 ∷ 8 ∷ 11 ∷ 12 ∷ 15 ∷ []), 11 ∷ 0 ∷ 11 ∷ 11 ∷ 0 ∷ 0 ∷ [])
+    ∷ (map (λ i. brightnessOf (afterWords powerUp (0x0701 ∷ 0x0300 ∷ [])) i) (0 ∷ 7 ∷ 15 ∷ []), 7 ∷ 7 ∷ 7 ∷ [])
+    -- what rules, lit or dark: I=0 the global register, I=1 the digit's own, test over both
+    ∷ (
+      map (λ ws. rulerCode (rulerOf (afterWords powerUp ws)))
+          ([] ∷ (0x0401 ∷ []) ∷ (0x0440 ∷ []) ∷ (0x0441 ∷ []) ∷ (0x0701 ∷ []) ∷ (0x0441 ∷ 0x0701 ∷ []) ∷ []),
+      1 ∷ 1 ∷ 2 ∷ 2 ∷ 3 ∷ 3 ∷ [],
+    )
     -- cathode 0 is 14-segment, under its own table: a word of bit 11 lights d, O6, alone
     ∷ (
       map (λ p. pinCode (pinAt (afterWords powerUp (0x0401 ∷ 0x0C01 ∷ 0x2000 ∷ [])) 0 (0x0800 ∷ []) (0xF7FF ∷ []) p)) (2 ∷ 3 ∷ 6 ∷ 7 ∷ 18 ∷ []),

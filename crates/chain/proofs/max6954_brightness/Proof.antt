@@ -25,8 +25,8 @@ pub max6954-brightness-spec : {M : Type 1} → statement M
 unfolding code.routine
 max6954-brightness-spec 𝓤 H 𝓜 𝓖 𝓡 =
     asks-spec own-def.name refused-def.name work-def.name 0 (held size ∷ []) (held brightnessAnswer) (λ p. brightness (p .0))
-    (λ r ds x. x ≡ record { number = r .number; records = ds; back = r .sixteenths ∷ [] })
-    (λ p r. r ≡ record { number = p .0; sixteenths = 0 }) (λ n p r ds e. rw e)
+    (λ r ds x. x ≡ record { number = r .number; records = ds; back = r .sixteenths ∷ r .ruler ∷ [] })
+    (λ p r. r ≡ record { number = p .0; sixteenths = 0; ruler = 0 }) (λ n p r ds e. rw e)
     (λ p r. r ≡ brightnessAnswer′ (p .0) (p .1 .0)) (λ d p r ds z e. rw (e, z))
     𝓤 H 𝓜 𝓖 𝓡 code.env key.name (code.unfolded 𝓤 H 𝓜 𝓡) (cited 𝓤 H _ 𝓜 𝓡 code.env number-def.name number-def.routine code.calls-lent·call-refusal (number-thm.met 𝓤 H 𝓜 𝓖 𝓡))
     (cited 𝓤 H _ 𝓜 𝓡 code.env own-def.name own-def.routine code.calls-pass·brightness-refusal (own-thm.met 𝓤 H 𝓜 𝓖 𝓡)) (cited 𝓤 H _ 𝓜 𝓡 code.env refused-def.name refused-def.routine code.calls-answers·brightness-refused (refused-thm.met 𝓤 H 𝓜 𝓖 𝓡))

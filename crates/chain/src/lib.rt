@@ -2,7 +2,7 @@
 ghost use mathlib.Core.Path.{_≡_};
 ghost use mathlib.Core.List.{[], _∷_};
 ghost use Rattle.device.specs.PowerUp.{powerUp};
-ghost use Rattle.calls.specs.Calls.{access as accessCall, give, ask, scan, levels as pinLevels, clocks as masterClocks, plane, planeShown, segments, brightness, shown, interrupt, answerMark};
+ghost use Rattle.calls.specs.Calls.{access as accessCall, give, ask, scan, levels as pinLevels, clocks as masterClocks, plane, planeShown, segments, brightness, shown, interrupt, answerMark, askChain, plan, planCheck};
 ghost use Rattle.calls.specs.Outcome.{outcome};
 use answers::InterruptAnswer;
 use answers::MarkAnswer;
@@ -10,6 +10,8 @@ use answers::ShownAnswer;
 use brightness::BrightnessAnswer;
 use device::Device;
 use display::SegmentAnswer;
+use planner::PlanAnswer;
+use planner::PlanCheckAnswer;
 
 // A driver at power-up.
 #[no_mangle]
@@ -233,4 +235,34 @@ pub extern "C" fn max6954_answer_mark(chain: &[Device], driver: usize) -> MarkAn
     }
     let at = driver - 1;
     answers::mark(chain[at])
+}
+
+// The shortest list of accesses that leads to the wanted contents, 32 bytes for each driver, P0 then P1: into the front of the list.
+#[no_mangle]
+pub extern "C" fn max6954_plan(chain: &[Device], wanted: &[u8], list: &mut [u16]) -> PlanAnswer
+    ensures { λ r. ⌜ outcome (askChain (plan (now (wanted .entry)) (now (list .entry)))) (now (chain .entry)) ≡ record { number = r .number; records = now (chain .entry); back = r .accesses ∷ now (list .exit) } ⌝ }
+{
+    let n = chain.len();
+    let early = lent::call_refusal(chain, 1, 0);
+    let own = planner::wanted_refusal(early, n, wanted.len());
+    let most = redraw::accesses(chain, own, wanted);
+    let number = planner::list_refusal(own, n, most, list.len());
+    redraw::write_list(chain, number, wanted, list, most);
+    planner::plan_answer(number, most)
+}
+
+// Whether a list of accesses leads to the wanted contents, and has no word that a redraw may not use.
+#[no_mangle]
+pub extern "C" fn max6954_plan_check(
+    chain: &[Device],
+    wanted: &[u8],
+    list: &[u16],
+) -> PlanCheckAnswer
+    ensures { λ r. ⌜ outcome (askChain (planCheck (now (wanted .entry)) (now (list .entry)))) (now (chain .entry)) ≡ record { number = r .number; records = now (chain .entry); back = r .accepted ∷ [] } ⌝ }
+{
+    let n = chain.len();
+    let early = lent::call_refusal(chain, 1, 0);
+    let number = planner::wanted_refusal(early, n, wanted.len());
+    let each = redraw::accepted(chain, number, n, wanted, list);
+    planner::check_answer(number, n, list.len(), each)
 }

@@ -52,8 +52,11 @@ pub fn wanted_refusal(first: u8, n: usize, wanted: usize) -> u8
 pub fn list_refusal(first: u8, n: usize, k: usize, room: usize) -> u8
     ensures { λ r. ⌜ r ≡ firstOf (first ∷ listOf n k room ∷ []) ⌝ }
 {
-    if (first != 0) | (n == 0) {
+    if first != 0 {
         return first;
+    }
+    if n == 0 {
+        return 0;
     }
     if room / n < k { 13 } else { 0 }
 }
@@ -73,8 +76,8 @@ pub fn check_answer(number: u8, n: usize, words: usize, each: bool) -> PlanCheck
     ensures { λ r. ⌜ r ≡ record { number = number; accepted = if (eqb number 0 && ltb 0 n && eqb (words % n) 0 && each) 1 0 } ⌝ }
 {
     let mut accepted = 0;
-    if (number == 0) & (0 < n) & each {
-        if words % n == 0 {
+    if (number == 0) & (0 < n) {
+        if (words % n == 0) & each {
             accepted = 1;
         }
     }
@@ -284,7 +287,8 @@ fn keeps(c: Config, v: u16) -> bool
         & (v / 8 % 2 == c.e as u16)
         & (v / 4 % 2 == c.b as u16)
         & (v % 2 == c.s as u16);
-    stored & !(v / 16 % 2 == 1) & !(v / 128 % 2 == 1) & !(v / 2 % 2 == 1)
+    let zero = !(v / 16 % 2 == 1) & !(v / 128 % 2 == 1) & !(v / 2 % 2 == 1);
+    stored & zero
 }
 
 // A word that a redraw may give.
@@ -359,8 +363,10 @@ fn own_accepted(i: usize, d: Device, n: usize, wanted: &[u8], list: &[u16]) -> b
 pub fn accepts(each: bool, i: usize, d: Device, n: usize, wanted: &[u8], list: &[u16]) -> bool
     ensures { λ r. ⌜ r ≡ (each && acceptsAt d n (now (wanted .entry)) (now (list .entry)) i) ⌝ }
 {
-    if each & (i < n) & (n < 17) & (i < wanted.len() / 32) {
-        return own_accepted(i, d, n, wanted, list);
+    if each {
+        if (i < n) & (n < 17) & (i < wanted.len() / 32) {
+            return own_accepted(i, d, n, wanted, list);
+        }
     }
     false
 }

@@ -1,1 +1,3 @@
 pub mod OnWire
+pub mod Passes
+pub mod CallLaws

@@ -14,7 +14,7 @@ use Rattle.refusals.specs.Refusals.{bytesFor}
 use Rattle.device.specs.PowerUp.{powerUp}
 use Rattle.device.specs.Taken.{taken}
 use Rattle.device.specs.declared.Device.{Device}
-use Rattle.calls.specs.Calls.{Step, Question, Call, access, give, ask, askChain}
+use Rattle.calls.specs.Calls.{Step, Question, ChainQuestion, Call, access, give, ask, askChain}
 use Rattle.calls.specs.CallRefusals.{allSound, shortestRefusal}
 use Rattle.calls.specs.Served.{recordOf, stepped, answerTo, served, givenBack, refusedBack}
 use Rattle.calls.specs.Outcome.{number, after, reply}
@@ -55,6 +55,10 @@ module _ (i : ℕ) (ds : List Device) (h : 1 ≤ i) (g : i ≤ length ds) where
       go true e = let p : j ≡ i = eqb-true j i e in rw p
       go false e = refl
 
+  -- what the chain is asked
+  chain-own : (q : ChainQuestion) → Own (length ds) i (askChain q) ds
+  chain-own q = record { left = refl; back = refl }
+
   -- any accepted call
   own : (q : Call) → Full (length ds) q → accepted (length ds) q ≡ true → Own (length ds) i q ds
   own (access c sent room) f t =
@@ -64,7 +68,7 @@ module _ (i : ℕ) (ds : List Device) (h : 1 ≤ i) (g : i ≤ length ds) where
       let a = zero-says (length ds) true 0 (give j s) (eqb-true _ 0 t) in
       give-own j s (driver-there (length ds) j (a .named) .0)
   own (ask j q) f t = ask-own j q
-  own (askChain q) f t = record { left = refl; back = refl }
+  own (askChain q) f t = chain-own q
 
 -- what one call, served or refused, leaves and gives back
 record Stepped (n i : ℕ) (q : Call) (ds : List Device) : Type 0 where

@@ -1,15 +1,19 @@
--- The bench examples, by one computation over the joined table, and those of numbers, answers and answer marks.
+-- The bench examples, by one computation over the joined table, and those of numbers, answers, answer marks and the planner.
 -- Assumes nothing.
 use mathlib.Core.Path.{refl}
 use Rattle.ground.specs.Lists.{tabulate, Agree}
 use Rattle.wire.specs.Bits.{bits, value, unpack, byteAt, pack, wordAt}
 use Rattle.wire.specs.Wire.{string, words, wire, answer, shifted}
 use Rattle.device.specs.Taken.{taken}
+use Rattle.plans.specs.Words.{every}
+use Rattle.plans.specs.Check.{below, same, acceptedWords, acceptedList}
+use Rattle.plans.specs.Least.{total}
+use Rattle.plans.specs.Plan.{steps, planBy, largest, accesses, planned}
 use Rattle.display.specs.Examples.{WireExamples}
 use Rattle.calls.specs.CallRefusals.{allSound}
 use Rattle.calls.specs.Outcome.{number, after, reply}
 use Rattle.calls.specs.CallLists.{afterAll, numbers, replies}
-use Rattle.calls.specs.Examples.{rows, numberRows, answerRows, markRows, Examples}
+use Rattle.calls.specs.Examples.{rows, numberRows, answerRows, markRows, planRows, Examples}
 
 bench : Agree rows
 unfolding tabulate bits value unpack byteAt pack wordAt string words wire answer shifted taken allSound number after reply afterAll numbers replies
@@ -30,5 +34,9 @@ bench-marks : Agree markRows
 unfolding bits value unpack byteAt pack wordAt string words wire answer shifted taken tabulate allSound number after reply afterAll
 bench-marks = refl
 
+bench-plans : Agree planRows
+unfolding tabulate total steps planBy largest accesses planned below same every acceptedWords acceptedList taken allSound number reply
+bench-plans = refl
+
 pub examples : Examples
-examples = record { bench = bench; wires = bench-wires; numbers = bench-numbers; answers = bench-answers; marked = bench-marks }
+examples = record { bench = bench; wires = bench-wires; numbers = bench-numbers; answers = bench-answers; marked = bench-marks; planned = bench-plans }

@@ -1,7 +1,7 @@
 -- Believed: document 01, "Bench examples", 10 and 11 in the table of the display, the others in one, and "Numbers a call
--- may give", 1 to 7, 3 by example 12; document 02, requests 1 and 2: what the definitions give beside what the documents say.
+-- may give", 1 to 7, 3 by example 12; document 02, requests 1, 2 and 6: what the definitions give beside what the documents say.
 -- Assumes nothing.
-use Prim.Native.Nat.{ℕ, _+_}
+use Prim.Native.Nat.{ℕ, _+_, _*_}
 use mathlib.Core.List.{List, [], _∷_, _++_, map}
 use lib.ListN.{replicate}
 use Rattle.ground.specs.Lists.{tabulate, Agree}
@@ -11,7 +11,7 @@ use Rattle.device.specs.Taken.{taken}
 use Rattle.device.specs.Examples.{rows as driverRows}
 use Rattle.device.specs.declared.Device.{Device}
 use Rattle.display.specs.Examples.{WireExamples, rows as displayRows}
-use Rattle.calls.specs.Calls.{scan, levels, Question, plane, segments, brightness, shown, interrupt, answerMark, Call, access, give, ask}
+use Rattle.calls.specs.Calls.{scan, levels, Question, plane, segments, brightness, shown, interrupt, answerMark, plan, planCheck, Call, access, give, ask, askChain}
 use Rattle.calls.specs.Served.{recordOf}
 use Rattle.calls.specs.Outcome.{number, reply}
 use Rattle.calls.specs.CallLists.{afterAll, numbers, replies}
@@ -179,6 +179,38 @@ markRows =
     ∷ (marks (afterAll (accessOf 32 (0x84 ∷ 0x00 ∷ 0x04 ∷ 0x01 ∷ []) ∷ []) (freshChain 2)), 0 ∷ 1 ∷ [])
     ∷ []
 
+-- request 6: a planner's call that wants all planes 0, with room for as many words
+abbrev pub clearing : ℕ → List ℕ → Call
+clearing n room = askChain (plan (replicate (32 * n) 0) room)
+
+abbrev pub planRows : List (List ℕ × List ℕ)
+planRows =
+    -- 12: wanted contents not 32 bytes a driver
+    (map (λ k. number (askChain (planCheck (replicate k 0) [])) (freshChain 2)) (0 ∷ 63 ∷ 64 ∷ 65 ∷ []), 12 ∷ 12 ∷ 0 ∷ 12 ∷ [])
+    ∷ (map (λ k. number (askChain (plan (replicate k 0) (replicate 64 0))) (freshChain 2)) (0 ∷ 63 ∷ 64 ∷ 65 ∷ []), 12 ∷ 12 ∷ 0 ∷ 12 ∷ [])
+    -- 13: room too small for the shortest list, here of one access
+    ∷ (map (λ k. number (clearing 2 (replicate k 0)) (freshChain 2)) (0 ∷ 1 ∷ 2 ∷ 3 ∷ []), 13 ∷ 13 ∷ 0 ∷ 0 ∷ [])
+    -- 1 before 12 and 13, 7 before 12 and 13, 12 before 13
+    ∷ (
+      map (λ ds. number (askChain (plan (0 ∷ []) [])) ds) (freshChain 0 ∷ freshChain 17 ∷ (withPins powerUp 32 ∷ []) ∷ freshChain 1 ∷ []),
+      1 ∷ 1 ∷ 7 ∷ 12 ∷ [],
+    )
+    ∷ (map (λ ds. number (clearing 1 []) ds) ((withPins powerUp 32 ∷ []) ∷ freshChain 1 ∷ []), 7 ∷ 13 ∷ [])
+    ∷ (
+      map (λ ds. number (askChain (planCheck (0 ∷ []) [])) ds) (freshChain 0 ∷ freshChain 17 ∷ (withPins powerUp 32 ∷ []) ∷ freshChain 1 ∷ []),
+      1 ∷ 1 ∷ 7 ∷ 12 ∷ [],
+    )
+    -- served: one access, the clear for each driver, and the room after it stays
+    ∷ (reply (clearing 2 (0xAAAA ∷ 0xBBBB ∷ 0xCCCC ∷ [])) (freshChain 2), 1 ∷ 0x0420 ∷ 0x0420 ∷ 0xCCCC ∷ [])
+    -- refused: no access, and no word changes
+    ∷ (reply (clearing 1 (0xAAAA ∷ 0xBBBB ∷ [])) (freshChain 2), 0 ∷ 0xAAAA ∷ 0xBBBB ∷ [])
+    ∷ (reply (clearing 2 (0xAAAA ∷ [])) (freshChain 2), 0 ∷ 0xAAAA ∷ [])
+    -- the check: accepted, not accepted, refused
+    ∷ (reply (askChain (planCheck (replicate 32 0) (0x0420 ∷ []))) (freshChain 1), 1 ∷ [])
+    ∷ (reply (askChain (planCheck (replicate 32 0) [])) (freshChain 1), 0 ∷ [])
+    ∷ (reply (askChain (planCheck (replicate 31 0) (0x0420 ∷ []))) (freshChain 1), 0 ∷ [])
+    ∷ []
+
 -- what the definitions give is what the documents say
 pub record Examples : Type 0 where
   pub bench : Agree rows
@@ -186,3 +218,4 @@ pub record Examples : Type 0 where
   pub numbers : Agree numberRows
   pub answers : Agree answerRows
   pub marked : Agree markRows
+  pub planned : Agree planRows

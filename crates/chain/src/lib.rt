@@ -1,9 +1,11 @@
 // The calls on a chain of MAX6954: a lent row of records, nearest the controller first. Drivers are counted from 1.
 ghost use mathlib.Core.Path.{_≡_};
 ghost use mathlib.Core.List.{[], _∷_};
+ghost use lib.ListN.{length};
 ghost use Rattle.device.specs.PowerUp.{powerUp};
 ghost use Rattle.calls.specs.Calls.{access as accessCall, give, ask, scan, levels as pinLevels, clocks as masterClocks, plane, planeShown, segments, brightness, shown, interrupt, answerMark, askChain, plan, planCheck};
 ghost use Rattle.calls.specs.Outcome.{outcome};
+ghost use Rattle.redraw.specs.PlanBytes.{bytesNumber, bytesAfter};
 use answers::InterruptAnswer;
 use answers::MarkAnswer;
 use answers::ShownAnswer;
@@ -265,4 +267,12 @@ pub extern "C" fn max6954_plan_check(
     let number = planner::wanted_refusal(early, n, wanted.len());
     let each = redraw::accepted(chain, number, n, wanted, list);
     planner::check_answer(number, n, list.len(), each)
+}
+
+// The bytes to send for one access of a list for n drivers.
+#[no_mangle]
+pub extern "C" fn max6954_plan_bytes(n: usize, list: &[u16], access: usize, bytes: &mut [u8]) -> u8
+    ensures { λ r. ⌜ (r ≡ bytesNumber n (length (now (list .entry))) access (length (now (bytes .entry)))) × (now (bytes .exit) ≡ bytesAfter n (now (list .entry)) access (now (bytes .entry))) ⌝ }
+{
+    redraw::plan_bytes(n, list, access, bytes)
 }

@@ -59,4 +59,5 @@ plain-spec =
     (λ c. search needs)
     (λ c. search needs)
     loop-again
+    (λ c. let s = c .before .before .before .before .before .args in omega (arith, needs-le (s .held) (wantedAt (s .wanted .now) (s .i)) (c .before .loop .k)))
     returns)

@@ -5,7 +5,7 @@ use native.Mathlib.Omega.{arith}
 use mathlib.Core.Bool.{Bool, true, false, _&&_}
 use mathlib.Core.List.{List, [], _∷_}
 use mathlib.Core.Path.{_≡_, refl}
-use lib.Dec.{leb, ltb}
+use lib.Dec.{eqb, leb, ltb}
 use lib.ListN.{length}
 use borrow.Author.Tests.{leb-true, ltb-true, ltb-false}
 use Rattle.ground.specs.Choice.{if}
@@ -14,7 +14,7 @@ use Rattle.refusals.specs.Refusals.{bytesFor, chainRefusal, driverRefusal, soun
 use Rattle.refusals.proofs.RefusalLaws.{first-zero, size-served as sizes-fit}
 use Rattle.device.specs.declared.Device.{Device}
 use Rattle.calls.specs.Calls.{levels, Call}
-use Rattle.calls.specs.CallRefusals.{namedRefusal, bytesRefusal, stepRefusal, argumentRefusal, allSound, refusalBy}
+use Rattle.calls.specs.CallRefusals.{namedRefusal, bytesRefusal, stepRefusal, argumentRefusal, allSound, contentsRefusal, shortestRefusal, refusalBy}
 use Rattle.calls.specs.Served.{served, givenBack, refusedBack}
 use Rattle.calls.specs.Outcome.{number, after, reply}
 use Rattle.calls.specs.Isolation.{refusalAlone, accepted}
@@ -25,24 +25,26 @@ pub record Accepted (n : ℕ) (sound : Bool) (q : Call) : Type 0 where
   pub bytes : bytesRefusal q ≡ 0
   pub argument : argumentRefusal q ≡ 0
   pub all-sound : sound ≡ true
+  pub contents : contentsRefusal n q ≡ 0
 
 -- each rule of the table gave 0
-pub zero-says : (n : ℕ) (sound : Bool) (q : Call) → refusalBy n sound q ≡ 0 → Accepted n sound q
-zero-says n sound q z =
-    let all = go (chainRefusal n) (namedRefusal n q) (bytesRefusal q) (argumentRefusal q) (soundRefusal sound) z in
-    record { named = all .0; bytes = all .1; argument = all .2; all-sound = passed sound 0 6 (all .3) .0 }
+pub zero-says : (n : ℕ) (sound : Bool) (shortest : ℕ) (q : Call) → refusalBy n sound shortest q ≡ 0 → Accepted n sound q
+zero-says n sound shortest q z =
+    let all = go (chainRefusal n) (namedRefusal n q) (bytesRefusal q) (argumentRefusal q) (soundRefusal sound) (contentsRefusal n q) z in
+    record { named = all .0; bytes = all .1; argument = all .2; all-sound = passed sound 0 6 (all .3) .0; contents = all .4 }
   where
-    go : (a b c d e : ℕ) → firstOf (a ∷ b ∷ c ∷ d ∷ e ∷ []) ≡ 0 → (b ≡ 0) × (c ≡ 0) × (d ≡ 0) × (e ≡ 0)
-    go a b c d e z =
-        let z₁ = first-zero a (b ∷ c ∷ d ∷ e ∷ []) z .1 in
-        let z₂ = first-zero b (c ∷ d ∷ e ∷ []) z₁ in
-        let z₃ = first-zero c (d ∷ e ∷ []) (z₂ .1) in
-        let z₄ = first-zero d (e ∷ []) (z₃ .1) in
-        (z₂ .0, z₃ .0, z₄ .0, first-zero e [] (z₄ .1) .0)
+    go : (a b c d e f : ℕ) → firstOf (a ∷ b ∷ c ∷ d ∷ e ∷ f ∷ shortest ∷ []) ≡ 0 → (b ≡ 0) × (c ≡ 0) × (d ≡ 0) × (e ≡ 0) × (f ≡ 0)
+    go a b c d e f z =
+        let z₁ = first-zero a (b ∷ c ∷ d ∷ e ∷ f ∷ shortest ∷ []) z .1 in
+        let z₂ = first-zero b (c ∷ d ∷ e ∷ f ∷ shortest ∷ []) z₁ in
+        let z₃ = first-zero c (d ∷ e ∷ f ∷ shortest ∷ []) (z₂ .1) in
+        let z₄ = first-zero d (e ∷ f ∷ shortest ∷ []) (z₃ .1) in
+        let z₅ = first-zero e (f ∷ shortest ∷ []) (z₄ .1) in
+        (z₂ .0, z₃ .0, z₄ .0, z₅ .0, first-zero f (shortest ∷ []) (z₅ .1) .0)
 
 pub number-says : (q : Call) (ds : List Device) → number q ds ≡ 0 → Accepted (length ds) (allSound ds) q
 unfolding number
-number-says q ds = zero-says (length ds) (allSound ds) q
+number-says q ds = zero-says (length ds) (allSound ds) (shortestRefusal ds q) q
 
 -- a call with the number 0 is served
 pub after-zero : (q : Call) (ds : List Device) → number q ds ≡ 0 → after q ds ≡ served q ds
@@ -52,6 +54,15 @@ after-zero q ds z = rw z
 pub reply-zero : (q : Call) (ds : List Device) → number q ds ≡ 0 → reply q ds ≡ givenBack q ds
 unfolding reply
 reply-zero q ds z = rw z
+
+-- one that changes no record where it is served changes none
+pub after-same : (q : Call) (ds : List Device) → served q ds ≡ ds → after q ds ≡ ds
+unfolding after
+after-same q ds e = go (eqb (number q ds) 0)
+  where
+    go : (b : Bool) → if b (served q ds) ds ≡ ds
+    go true = e
+    go false = refl
 
 -- a driver that is there
 pub driver-there : (n j : ℕ) → driverRefusal n j ≡ 0 → (1 ≤ j) × (j ≤ n)
@@ -71,11 +82,11 @@ levels-fit l e = omega (arith, ltb-false 31 l (go (ltb 31 l) e))
     go true z = absurd (omega (arith, z))
     go false z = refl
 
-module _ (n : ℕ) (q : Call) (ds : List Device) (l : length ds ≡ n) (s : allSound ds ≡ true) where
-  -- on sound records the arguments alone decide
+module _ (n : ℕ) (q : Call) (ds : List Device) (l : length ds ≡ n) (s : allSound ds ≡ true) (z : shortestRefusal ds q ≡ 0) where
+  -- on sound records the arguments alone decide, but for 13
   pub number-alone : number q ds ≡ refusalAlone n q
   unfolding number
-  number-alone = rw (l, s)
+  number-alone = rw (l, s, z)
 
   -- accepted it is served, refused it changes nothing
   pub after-by : after q ds ≡ if (accepted n q) (served q ds) ds

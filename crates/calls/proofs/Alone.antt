@@ -14,13 +14,13 @@ use Rattle.refusals.specs.Refusals.{bytesFor}
 use Rattle.device.specs.PowerUp.{powerUp}
 use Rattle.device.specs.Taken.{taken}
 use Rattle.device.specs.declared.Device.{Device}
-use Rattle.calls.specs.Calls.{Step, Question, Call, access, give, ask}
-use Rattle.calls.specs.CallRefusals.{allSound}
+use Rattle.calls.specs.Calls.{Step, Question, Call, access, give, ask, askChain}
+use Rattle.calls.specs.CallRefusals.{allSound, shortestRefusal}
 use Rattle.calls.specs.Served.{recordOf, stepped, answerTo, served, givenBack, refusedBack}
-use Rattle.calls.specs.Outcome.{after, reply}
+use Rattle.calls.specs.Outcome.{number, after, reply}
 use Rattle.calls.specs.CallLists.{afterAll, numbers, replies}
-use Rattle.calls.specs.Isolation.{refusalAlone, accepted, loneStep, loneReply, answeredBy, loneAfter, lone, loneReplies, allAnsweredBy, Full, AllFull, Isolation}
-use Rattle.calls.proofs.Accepted.{zero-says, driver-there, sent-enough, number-alone, after-by, reply-by}
+use Rattle.calls.specs.Isolation.{refusalAlone, accepted, loneStep, loneReply, answeredBy, loneAfter, lone, loneReplies, allAnsweredBy, Full, AllFull, ownNumber, ownNumbers, Isolation}
+use Rattle.calls.proofs.Accepted.{zero-says, driver-there, sent-enough, after-same, number-alone, after-by, reply-by}
 use Rattle.calls.proofs.Records.{length-after, length-afterAll}
 use Rattle.calls.proofs.Sound.{after-sound, all-sound}
 use Rattle.calls.proofs.Answered.{taken-at, own-taken, own-answered}
@@ -58,24 +58,26 @@ module _ (i : ℕ) (ds : List Device) (h : 1 ≤ i) (g : i ≤ length ds) where
   -- any accepted call
   own : (q : Call) → Full (length ds) q → accepted (length ds) q ≡ true → Own (length ds) i q ds
   own (access c sent room) f t =
-      let a = zero-says (length ds) true (access c sent room) (eqb-true _ 0 t) in
+      let a = zero-says (length ds) true 0 (access c sent room) (eqb-true _ 0 t) in
       access-own c sent room (f t) (sent-enough c (length sent) (length room) (a .bytes))
   own (give j s) f t =
-      let a = zero-says (length ds) true (give j s) (eqb-true _ 0 t) in
+      let a = zero-says (length ds) true 0 (give j s) (eqb-true _ 0 t) in
       give-own j s (driver-there (length ds) j (a .named) .0)
   own (ask j q) f t = ask-own j q
+  own (askChain q) f t = record { left = refl; back = refl }
 
 -- what one call, served or refused, leaves and gives back
 record Stepped (n i : ℕ) (q : Call) (ds : List Device) : Type 0 where
   left : recordOf (after q ds) i ≡ loneAfter n i q (recordOf ds i)
   back : if (accepted n q) (answeredBy n i q (reply q ds)) [] ≡ if (accepted n q) (loneReply i q (recordOf ds i)) []
 
--- one call on sound records
-call-own : (i : ℕ) (q : Call) (ds : List Device) → allSound ds ≡ true → Full (length ds) q → 1 ≤ i → i ≤ length ds → Stepped (length ds) i q ds
-call-own i q ds s f h g =
+-- one call on sound records, whose number its arguments alone decide
+decided-own : (i : ℕ) (q : Call) (ds : List Device) → allSound ds ≡ true → shortestRefusal ds q ≡ 0 → Full (length ds) q → 1 ≤ i → i ≤ length ds
+    → Stepped (length ds) i q ds
+decided-own i q ds s z f h g =
     record {
-      left = rw (after-by n q ds refl s) (go-left (accepted n q) refl);
-      back = rw (reply-by n q ds refl s) (go-back (accepted n q) refl);
+      left = rw (after-by n q ds refl s z) (go-left (accepted n q) refl);
+      back = rw (reply-by n q ds refl s z) (go-back (accepted n q) refl);
     }
   where
     n : ℕ
@@ -89,21 +91,39 @@ call-own i q ds s f h g =
     go-back true t = own i ds h g q f t .back
     go-back false t = refl
 
+-- any call; what the chain is asked is nothing to a driver
+call-own : (i : ℕ) (q : Call) (ds : List Device) → allSound ds ≡ true → Full (length ds) q → 1 ≤ i → i ≤ length ds → Stepped (length ds) i q ds
+call-own i (access c sent room) ds s f h g = decided-own i (access c sent room) ds s refl f h g
+call-own i (give j x) ds s f h g = decided-own i (give j x) ds s refl f h g
+call-own i (ask j x) ds s f h g = decided-own i (ask j x) ds s refl f h g
+call-own i (askChain x) ds s f h g =
+    record { left = ap (λ (es : List Device). recordOf es i) (after-same (askChain x) ds refl) ∙ go (accepted (length ds) (askChain x)); back = refl }
+  where
+    go : (b : Bool) → recordOf ds i ≡ if b (recordOf ds i) (recordOf ds i)
+    go true = refl
+    go false = refl
+
+call-number : (n : ℕ) (q : Call) (ds : List Device) → length ds ≡ n → allSound ds ≡ true → ownNumber q (number q ds) ≡ ownNumber q (refusalAlone n q)
+call-number n (access c sent room) ds l s = ap (λ (k : ℕ). k ∷ []) (number-alone n (access c sent room) ds l s refl)
+call-number n (give j x) ds l s = ap (λ (k : ℕ). k ∷ []) (number-alone n (give j x) ds l s refl)
+call-number n (ask j x) ds l s = ap (λ (k : ℕ). k ∷ []) (number-alone n (ask j x) ds l s refl)
+call-number n (askChain x) ds l s = refl
+
 -- the theorem's first three parts, at each length
 record Told (n i : ℕ) (qs : List Call) (ds : List Device) : Type 0 where
-  numbered : numbers qs ds ≡ map (refusalAlone n) qs
+  numbered : ownNumbers qs (numbers qs ds) ≡ ownNumbers qs (map (refusalAlone n) qs)
   left : recordOf (afterAll qs ds) i ≡ lone n i qs (recordOf ds i)
   back : allAnsweredBy n i qs (replies qs ds) ≡ loneReplies n i qs (recordOf ds i)
 
 -- by induction on the list
 told : (n i : ℕ) → 1 ≤ i → i ≤ n → (qs : List Call) (ds : List Device) → length ds ≡ n → allSound ds ≡ true → AllFull n qs → Told n i qs ds
-unfolding afterAll numbers replies lone loneReplies allAnsweredBy AllFull
+unfolding afterAll numbers replies lone loneReplies allAnsweredBy ownNumbers AllFull
 told n i h g [] ds l s f = record { numbered = refl; left = refl; back = refl }
 told n i h g (q ∷ qs) ds l s f =
     let t : Stepped n i q ds = rw l at (call-own i q ds s (rw l (f .0)) h (rw l g)) in
     let r = told n i h g qs (after q ds) (length-after q ds ∙ l) (after-sound q ds s) (f .1) in
     record {
-      numbered = rw (number-alone n q ds l s, r .numbered);
+      numbered = rw (call-number n q ds l s, r .numbered);
       left = r .left ∙ ap (lone n i qs) (t .left);
       back = rw (t .back, r .back, t .left);
     }
@@ -117,5 +137,5 @@ isolated qs ds s f i h g =
       same-record = t .left;
       same-answers = t .back;
       same-outputs = λ q a.
-          reply-by (length ds) (ask i q) (afterAll qs ds) (length-afterAll qs ds) (all-sound qs ds s) ∙ rw (a, t .left);
+          reply-by (length ds) (ask i q) (afterAll qs ds) (length-afterAll qs ds) (all-sound qs ds s) refl ∙ rw (a, t .left);
     }

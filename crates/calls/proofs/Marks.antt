@@ -12,12 +12,12 @@ use Rattle.ground.specs.Choice.{if, bit}
 use Rattle.device.specs.PowerUp.{powerUp}
 use Rattle.device.specs.declared.Device.{Device}
 use Rattle.device.proofs.Shift.{shift-word}
-use Rattle.calls.specs.Calls.{Step, scan, levels, clocks, Question, Call, access, give, ask}
+use Rattle.calls.specs.Calls.{Step, scan, levels, clocks, Call, access, give, ask, askChain}
 use Rattle.calls.specs.Served.{recordOf, stepped, served}
 use Rattle.calls.specs.Outcome.{number, after}
 use Rattle.calls.specs.NextAccess.{wordTaken}
 use Rattle.calls.specs.AnswerMark.{marks, AnswerMark}
-use Rattle.calls.proofs.Accepted.{after-zero}
+use Rattle.calls.proofs.Accepted.{after-zero, after-same}
 use Rattle.calls.proofs.Answered.{taken-at}
 
 -- no step touches the mark
@@ -42,17 +42,16 @@ by-step ds j s = go (eqb (number (give j s) ds) 0)
     go true = map-set-same (λ (d : Device). d .«answer_mark») ds (j - 1) _ powerUp (same-mark s (recordOf ds j))
     go false = refl
 
-by-question : (ds : List Device) (j : ℕ) (q : Question) → marks (after (ask j q) ds) ≡ marks ds
-unfolding after
-by-question ds j q = go (eqb (number (ask j q) ds) 0)
-  where
-    go : (b : Bool) → marks (if b ds ds) ≡ marks ds
-    go true = refl
-    go false = refl
-
 by-refused : (ds : List Device) (q : Call) → (number q ds ≡ 0 → ⊥) → marks (after q ds) ≡ marks ds
 unfolding after
 by-refused ds q z = rw (ne-eqb (number q ds) 0 z)
 
 pub answer-mark : AnswerMark
-answer-mark = record { by-access = by-access; by-step = by-step; by-question = by-question; by-refused = by-refused }
+answer-mark =
+    record {
+      by-access = by-access;
+      by-step = by-step;
+      by-question = λ ds j q. ap marks (after-same (ask j q) ds refl);
+      by-chain-question = λ ds q. ap marks (after-same (askChain q) ds refl);
+      by-refused = by-refused;
+    }

@@ -14,14 +14,14 @@ use Rattle.device.specs.PowerUp.{powerUp}
 use Rattle.device.specs.Taken.{answerWord}
 use Rattle.device.specs.declared.Device.{Device}
 use Rattle.device.proofs.Shift.{shift-word}
-use Rattle.calls.specs.Calls.{Step, scan, levels, clocks, Call, access, give, ask}
+use Rattle.calls.specs.Calls.{Step, scan, levels, clocks, Call, access, give, ask, askChain}
 use Rattle.calls.specs.CallRefusals.{allSound}
 use Rattle.calls.specs.Served.{recordOf, shiftWords, stepped, served}
 use Rattle.calls.specs.Outcome.{number, after, reply}
 use Rattle.calls.specs.CallLists.{afterAll}
 use Rattle.calls.specs.Isolation.{accepted, ownWord}
 use Rattle.calls.specs.NextAccess.{NoAccess, wordTaken, NextAccess}
-use Rattle.calls.proofs.Accepted.{number-says, after-zero, reply-zero, sent-enough, after-by}
+use Rattle.calls.proofs.Accepted.{number-says, after-zero, reply-zero, sent-enough, after-same, after-by}
 use Rattle.calls.proofs.Records.{length-after, length-afterAll}
 use Rattle.calls.proofs.Sound.{after-sound}
 use Rattle.calls.proofs.Answered.{taken-at, own-answered}
@@ -36,10 +36,6 @@ give-keeps : (j : ℕ) (s : Step) (ds : List Device) (b : Bool) → shiftWords (
 give-keeps j s ds true = map-set-same (λ (d : Device). d .shift) ds (j - 1) _ powerUp (same-shift s (recordOf ds j))
 give-keeps j s ds false = refl
 
-ask-keeps : (b : Bool) (ds : List Device) → if b ds ds ≡ ds
-ask-keeps true ds = refl
-ask-keeps false ds = refl
-
 -- calls that are no accepted access leave the shift words as they are
 words-kept : (n : ℕ) (qs : List Call) (ds : List Device) → length ds ≡ n → allSound ds ≡ true → NoAccess n qs → shiftWords (afterAll qs ds) ≡ shiftWords ds
 unfolding afterAll NoAccess
@@ -47,16 +43,19 @@ words-kept n [] ds l s f = refl
 words-kept n (access c sent room ∷ qs) ds l s f =
     let q = access c sent room in
     words-kept n qs (after q ds) (length-after q ds ∙ l) (after-sound q ds s) (f .1)
-    ∙ ap shiftWords (after-by n q ds l s ∙ ap (λ (b : Bool). if b (served q ds) ds) (f .0))
+    ∙ ap shiftWords (after-by n q ds l s refl ∙ ap (λ (b : Bool). if b (served q ds) ds) (f .0))
 words-kept n (give j s′ ∷ qs) ds l s f =
     let q = give j s′ in
     words-kept n qs (after q ds) (length-after q ds ∙ l) (after-sound q ds s) f
-    ∙ ap shiftWords (after-by n q ds l s)
+    ∙ ap shiftWords (after-by n q ds l s refl)
     ∙ give-keeps j s′ ds (accepted n q)
 words-kept n (ask j x ∷ qs) ds l s f =
     let q = ask j x in
     words-kept n qs (after q ds) (length-after q ds ∙ l) (after-sound q ds s) f
-    ∙ ap shiftWords (after-by n q ds l s ∙ ask-keeps (accepted n q) ds)
+    ∙ ap shiftWords (after-same q ds refl)
+words-kept n (askChain x ∷ qs) ds l s f =
+    let q = askChain x in
+    words-kept n qs (after q ds) (length-after q ds ∙ l) (after-sound q ds s) f ∙ ap shiftWords (after-same q ds refl)
 
 -- a driver's shift word by the shift words
 shift-at : (ds : List Device) (i : ℕ) → getD (shiftWords ds) (i - 1) 0 ≡ recordOf ds i .shift

@@ -15,7 +15,7 @@ use Rattle.ground.proofs.Truth.{and-left, and-right}
 use Rattle.device.specs.PowerUp.{powerUp}
 use Rattle.device.specs.Sound.{soundOf}
 use Rattle.device.specs.declared.Device.{Device}
-use Rattle.calls.specs.Calls.{Call, access, give, ask}
+use Rattle.calls.specs.Calls.{Call, access, give, ask, askChain}
 use Rattle.calls.specs.CallRefusals.{allSound}
 use Rattle.calls.specs.Served.{served}
 use Rattle.calls.specs.Outcome.{number, after}
@@ -48,6 +48,7 @@ length-served : (q : Call) (ds : List Device) → length (served q ds) ≡ lengt
 length-served (access c sent room) ds = length-tabulate (length ds) _
 length-served (give j s) ds = length-set ds _ _
 length-served (ask j q) ds = refl
+length-served (askChain q) ds = refl
 
 pub length-after : (q : Call) (ds : List Device) → length (after q ds) ≡ length ds
 unfolding after

@@ -13,7 +13,7 @@ use Rattle.device.specs.PowerUp.{powerUp}
 use Rattle.device.specs.Sound.{soundOf}
 use Rattle.device.specs.declared.Device.{Device}
 use Rattle.device.proofs.Sound.{soundness as device-sound}
-use Rattle.calls.specs.Calls.{Step, scan, levels, clocks, Call, access, give, ask}
+use Rattle.calls.specs.Calls.{Step, scan, levels, clocks, Call, access, give, ask, askChain}
 use Rattle.calls.specs.CallRefusals.{stepRefusal, allSound}
 use Rattle.calls.specs.Served.{recordOf, stepped, served}
 use Rattle.calls.specs.Outcome.{number, after}
@@ -39,6 +39,7 @@ served-sound (give j s) ds a =
     sound-set ds (j - 1) _ (a .all-sound)
     (stepped-sound s (recordOf ds j) (a .argument) (sound-at ds (a .all-sound) (j - 1)))
 served-sound (ask j q) ds a = a .all-sound
+served-sound (askChain q) ds a = a .all-sound
 
 -- any call
 pub after-sound : (q : Call) (ds : List Device) → allSound ds ≡ true → allSound (after q ds) ≡ true

@@ -6,7 +6,7 @@ use mathlib.Core.Path.{_≡_}
 use lib.ListN.{length}
 use Rattle.ground.specs.Choice.{if, bit}
 use Rattle.device.specs.declared.Device.{Device}
-use Rattle.calls.specs.Calls.{Step, Question, Call, access, give, ask}
+use Rattle.calls.specs.Calls.{Step, Question, ChainQuestion, Call, access, give, ask, askChain}
 use Rattle.calls.specs.Served.{recordOf}
 use Rattle.calls.specs.Outcome.{number, after}
 use Rattle.calls.specs.NextAccess.{wordTaken}
@@ -24,5 +24,6 @@ pub record AnswerMark : Type 0 where
   -- a scan, pin levels, clocks and a question leave every mark
   pub by-step : (ds : List Device) (j : ℕ) (s : Step) → marks (after (give j s) ds) ≡ marks ds
   pub by-question : (ds : List Device) (j : ℕ) (q : Question) → marks (after (ask j q) ds) ≡ marks ds
+  pub by-chain-question : (ds : List Device) (q : ChainQuestion) → marks (after (askChain q) ds) ≡ marks ds
   -- and so does a refused call of any kind
   pub by-refused : (ds : List Device) (q : Call) → (number q ds ≡ 0 → ⊥) → marks (after q ds) ≡ marks ds

@@ -1,4 +1,4 @@
--- Believed: document 01: the calls on a chain, with their arguments. Drivers are counted from 1, driver 1 nearest the controller.
+-- Believed: document 01, and document 02, requests 1 and 6: the calls on a chain, with their arguments. Drivers are counted from 1, driver 1 nearest the controller.
 -- Assumes nothing.
 use Prim.Native.Nat.{ℕ}
 use mathlib.Core.List.{List}
@@ -29,6 +29,13 @@ pub data Question : Type 0 where
   -- the answer mark (document 02, request 1)
   answerMark : Question
 
+-- what a whole chain is asked: no driver is named, and no record changes
+pub data ChainQuestion : Type 0 where
+  -- the shortest list of accesses: the wanted contents, and the words that have room for the list (document 02, request 6)
+  plan : List ℕ → List ℕ → ChainQuestion
+  -- whether a list is accepted: the wanted contents, and the list
+  planCheck : List ℕ → List ℕ → ChainQuestion
+
 -- a call
 pub data Call : Type 0 where
   -- clocks, the bytes sent, and the bytes that have room for the answer
@@ -37,3 +44,5 @@ pub data Call : Type 0 where
   give : ℕ → Step → Call
   -- driver, and what it is asked
   ask : ℕ → Question → Call
+  -- what the chain is asked
+  askChain : ChainQuestion → Call

@@ -10,15 +10,15 @@ use Rattle.ground.specs.Choice.{if}
 use Rattle.wire.specs.Bits.{bits, value, unpack, wordAt}
 use Rattle.device.specs.Taken.{taken}
 use Rattle.device.specs.declared.Device.{Device}
-use Rattle.calls.specs.Calls.{Question, Call, access, give, ask}
+use Rattle.calls.specs.Calls.{Question, Call, access, give, ask, askChain}
 use Rattle.calls.specs.CallRefusals.{allSound, refusalBy}
 use Rattle.calls.specs.Served.{recordOf, stepped, answerTo}
 use Rattle.calls.specs.Outcome.{reply}
 use Rattle.calls.specs.CallLists.{afterAll, numbers, replies}
 
--- the number that the table gives a call on n sound records, by its arguments alone
+-- the number that the table gives a call on n sound records, by its arguments alone: 13, which the records decide, is left out
 abbrev pub refusalAlone : ℕ → Call → ℕ
-refusalAlone n q = refusalBy n true q
+refusalAlone n q = refusalBy n true 0 q
 
 -- accepted means that the table gives 0
 abbrev pub accepted : ℕ → Call → Bool
@@ -28,23 +28,27 @@ accepted n q = eqb (refusalAlone n q) 0
 abbrev pub ownWord : ℕ → ℕ → List ℕ → ℕ
 ownWord n i bytes = wordAt (unpack bytes) (n - i)
 
--- what an accepted call makes of the lone driver, driver i of n: of an access it takes its own word and obeys it; a step is for its driver
+-- what an accepted call makes of the lone driver, driver i of n: of an access it takes its own word and obeys it; a step is for its driver; what is
+-- asked changes nothing
 abbrev pub loneStep : ℕ → ℕ → Call → Device → Device
 loneStep n i (access c sent room) d = taken d (ownWord n i sent)
 loneStep n i (give j s) d = if (eqb j i) (stepped s d) d
 loneStep n i (ask j q) d = d
+loneStep n i (askChain q) d = d
 
 -- what it answers to an accepted call: to an access its shift word, by its 16 bits; to a question for its driver from its record
 abbrev pub loneReply : ℕ → Call → Device → List (List ℕ)
 loneReply i (access c sent room) d = (value (bits 16 (d .shift)) ∷ []) ∷ []
 loneReply i (give j s) d = []
 loneReply i (ask j q) d = if (eqb j i) (answerTo q d ∷ []) []
+loneReply i (askChain q) d = []
 
 -- what driver i of n has answered, in what the chain gave back to an accepted call
 abbrev pub answeredBy : ℕ → ℕ → Call → List ℕ → List (List ℕ)
 answeredBy n i (access c sent room) back = (ownWord n i back ∷ []) ∷ []
 answeredBy n i (give j s) back = []
 answeredBy n i (ask j q) back = if (eqb j i) (back ∷ []) []
+answeredBy n i (askChain q) back = []
 
 -- the lone driver after one call; a refused one does nothing
 abbrev pub loneAfter : ℕ → ℕ → Call → Device → Device
@@ -71,16 +75,29 @@ abbrev pub Full : ℕ → Call → Type 0
 Full n (access c sent room) = accepted n (access c sent room) ≡ true → c ≡ 16 * n
 Full n (give j s) = Unit {0}
 Full n (ask j q) = Unit {0}
+Full n (askChain q) = Unit {0}
 
 -- so has every accepted access of a list
 unfoldable pub AllFull : ℕ → List Call → Type 0
 AllFull n [] = Unit {0}
 AllFull n (q ∷ qs) = Full n q × AllFull n qs
 
+-- of the numbers of a list of calls, those of accesses, steps and questions: what the chain is asked has no lone driver's number
+abbrev pub ownNumber : Call → ℕ → List ℕ
+ownNumber (access c sent room) k = k ∷ []
+ownNumber (give j s) k = k ∷ []
+ownNumber (ask j q) k = k ∷ []
+ownNumber (askChain q) k = []
+
+unfoldable pub ownNumbers : List Call → List ℕ → List ℕ
+ownNumbers [] ks = []
+ownNumbers (q ∷ qs) [] = []
+ownNumbers (q ∷ qs) (k ∷ ks) = ownNumber q k ++ ownNumbers qs ks
+
 -- after a list of calls on a chain, driver i is as it would be alone
 pub record Alone (qs : List Call) (ds : List Device) (i : ℕ) : Type 0 where
-  -- every call's number is the one that its arguments alone have
-  pub same-numbers : numbers qs ds ≡ map (refusalAlone (length ds)) qs
+  -- every access's, step's and question's number is the one that its arguments alone have
+  pub same-numbers : ownNumbers qs (numbers qs ds) ≡ ownNumbers qs (map (refusalAlone (length ds)) qs)
   -- its record is the lone driver's
   pub same-record : recordOf (afterAll qs ds) i ≡ lone (length ds) i qs (recordOf ds i)
   -- it has answered what the lone driver answers, in order

@@ -12,7 +12,7 @@ use Rattle.wire.specs.Wire.{shifted}
 use Rattle.registers.specs.Registers.{dataOf}
 use Rattle.device.specs.Taken.{answerWord}
 use Rattle.device.specs.declared.Device.{Device}
-use Rattle.calls.specs.Calls.{Call, access, give, ask}
+use Rattle.calls.specs.Calls.{Call, access, give, ask, askChain}
 use Rattle.calls.specs.CallRefusals.{allSound}
 use Rattle.calls.specs.Served.{recordOf, shiftWords}
 use Rattle.calls.specs.Outcome.{number, after, reply}
@@ -25,6 +25,7 @@ NoAccess n [] = Unit {0}
 NoAccess n (access c sent room ∷ qs) = (accepted n (access c sent room) ≡ false) × NoAccess n qs
 NoAccess n (give j s ∷ qs) = NoAccess n qs
 NoAccess n (ask j q ∷ qs) = NoAccess n qs
+NoAccess n (askChain q ∷ qs) = NoAccess n qs
 
 -- the word that driver i takes in an access
 abbrev pub wordTaken : List Device → ℕ → List ℕ → ℕ → ℕ

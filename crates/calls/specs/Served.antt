@@ -1,8 +1,9 @@
--- Believed: document 01, "Bits on the wire", "Keys", "Blink", "Segments and brightness": what a call leaves and gives back, served or refused.
+-- Believed: document 01, "Bits on the wire", "Keys", "Blink", "Segments and brightness", document 02, request 6: what a call leaves and gives back, served or refused.
 -- Assumes nothing.
-use Prim.Native.Nat.{ℕ, _-_}
+use Prim.Native.Nat.{ℕ, _-_, _*_}
 use mathlib.Core.List.{List, [], _∷_, _++_, map}
 use lib.ListN.{length, getD, set, drop}
+use Rattle.ground.specs.Choice.{if}
 use Rattle.ground.specs.Lists.{tabulate}
 use Rattle.refusals.specs.Refusals.{bytesFor}
 use Rattle.words.specs.declared.Plane.{Plane}
@@ -15,9 +16,11 @@ use Rattle.device.specs.Taken.{taken}
 use Rattle.device.specs.Steps.{scanned, clocked, shownPlane}
 use Rattle.device.specs.declared.Device.{Device}
 use Rattle.brightness.specs.Brightness.{brightnessOf}
+use Rattle.plans.specs.Check.{acceptedList}
+use Rattle.plans.specs.Plan.{accesses, planned}
 use Rattle.display.specs.Pins.{pinCode, segmentsOf}
 use Rattle.display.specs.declared.Pin.the-variants.{NotDriven}
-use Rattle.calls.specs.Calls.{Step, scan, levels, clocks, Question, plane, planeShown, segments, brightness, shown, interrupt, answerMark, Call, access, give, ask}
+use Rattle.calls.specs.Calls.{Step, scan, levels, clocks, Question, plane, planeShown, segments, brightness, shown, interrupt, answerMark, ChainQuestion, plan, planCheck, Call, access, give, ask, askChain}
 
 -- driver j's record
 abbrev pub recordOf : List Device → ℕ → Device
@@ -66,20 +69,33 @@ refusedTo shown = 0 ∷ []
 refusedTo interrupt = 0 ∷ []
 refusedTo answerMark = 0 ∷ []
 
+-- what a chain answers: the accesses of the shortest list, and the words that were lent, with the list in front; 1 where a list is accepted
+abbrev pub chainAnswer : ChainQuestion → List Device → List ℕ
+chainAnswer (plan wanted room) ds = accesses ds wanted ∷ planned ds wanted ++ drop (accesses ds wanted * length ds) room
+chainAnswer (planCheck wanted list) ds = if (acceptedList ds wanted list) 1 0 ∷ []
+
+-- a refused answer: no access, and the words as they were; not accepted
+abbrev pub chainRefused : ChainQuestion → List ℕ
+chainRefused (plan wanted room) = 0 ∷ room
+chainRefused (planCheck wanted list) = 0 ∷ []
+
 -- the records that a served call leaves; a question changes none
 abbrev pub served : Call → List Device → List Device
 served (access c sent room) ds = allTaken ds (shifted (shiftWords ds) sent c)
 served (give j s) ds = withRecord ds j (stepped s (recordOf ds j))
 served (ask j q) ds = ds
+served (askChain q) ds = ds
 
 -- what a served call gives back: an access the bytes that it was lent, with the answer in front
 abbrev pub givenBack : Call → List Device → List ℕ
 givenBack (access c sent room) ds = answer (shiftWords ds) sent c ++ drop (bytesFor c) room
 givenBack (give j s) ds = []
 givenBack (ask j q) ds = answerTo q (recordOf ds j)
+givenBack (askChain q) ds = chainAnswer q ds
 
 -- what a refused call gives back: an access the bytes as they were
 abbrev pub refusedBack : Call → List ℕ
 refusedBack (access c sent room) = room
 refusedBack (give j s) = []
 refusedBack (ask j q) = refusedTo q
+refusedBack (askChain q) = chainRefused q

@@ -11,6 +11,10 @@ use Rattle.brightness.proofs.BrightnessAnswer as B
 use Rattle.brightness.proofs.BrightnessAnswer.Laws as B′
 use Rattle.display.proofs.SegmentAnswer as P
 use Rattle.display.proofs.SegmentAnswer.Laws as P′
+use Rattle.planner.proofs.PlanAnswer as L
+use Rattle.planner.proofs.PlanAnswer.Laws as L′
+use Rattle.planner.proofs.PlanCheckAnswer as C
+use Rattle.planner.proofs.PlanCheckAnswer.Laws as C′
 
 abbrev pub segmentAnswer : Data
 segmentAnswer = rec P.the-type P′.the-laws P′.the-plain P′.the-copy
@@ -26,3 +30,9 @@ interruptAnswer = rec I.the-type I′.the-laws I′.the-plain I′.the-copy
 
 abbrev pub markAnswer : Data
 markAnswer = rec M.the-type M′.the-laws M′.the-plain M′.the-copy
+
+abbrev pub planAnswer : Data
+planAnswer = rec L.the-type L′.the-laws L′.the-plain L′.the-copy
+
+abbrev pub planCheckAnswer : Data
+planCheckAnswer = rec C.the-type C′.the-laws C′.the-plain C′.the-copy

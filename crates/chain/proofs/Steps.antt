@@ -1,5 +1,4 @@
--- `call_refusal` and functions by value, as steps of a walk that calls them.
---     FnOf, calls-kinds        a function with any parameters of `Params.antt`, and what its result is
+-- `call_refusal`, as a step of a walk that calls it.
 --     numbers           a `&[Device]` is passed to `call_refusal` for good: the number is what its contract says
 --     numbers-mut       a `&mut [Device]` is lent to `call_refusal` for a lifetime of the call's own, and comes back as it was
 -- Assumes `Given`.
@@ -40,7 +39,6 @@ use Rattle.device.specs.declared.Device.{Device}
 use Rattle.pass.specs.Found.{callRefusal}
 use Rattle.lent.proofs.Records.{size, byte, device}
 use Rattle.lent.proofs.Walk.{LentShared, lends-shared, shared-back, has-data, lands-known, calls-fn}
-use Rattle.lent.proofs.Params.{Kind, inner, inners, Of, Seen, seen, seens, Sent, values}
 use Rattle.lent.proofs.call_refusal as call-refusal
 use Rattle.lent.proofs.call_refusal.Symbol as number-def
 
@@ -50,26 +48,6 @@ ref γ b o ys = record { ptr = (b, o); name = γ; now = ys }
 module _ {M : Type 1} (𝓤 : URA M) (H : Heap 𝓤) (A : Atoms 𝓤) (mem : Memory → SProp 𝓤) (run : Routine → Fun 𝓤) where
   abbrev pub CallRefusal : Contract 𝓤
   CallRefusal = tripleOf 𝓤 H A call-refusal.signature (call-refusal.spec 𝓤 H A mem run)
-
--- a function that has Ks as its parameters and R as its result, of which it says ψ
-module _ {k : ℕ} (Ks : List (Kind k)) (R : Kind k) (ψ : Seen Ks → Of R → Type 0) where
-  abbrev fn-of : Ended
-  fn-of = record { signature = record { lifetimes = k; outlives = []; params = inners Ks; result = inner R }; kept = all yes (inners Ks) }
-
-  abbrev fn-says : {M : Type 1} (𝓤 : URA M) → Clauses 𝓤 fn-of
-  fn-says 𝓤 κs a = record { ghost = Unit {0}; requires = λ _. emp 𝓤; ensures = λ _ r _. fact 𝓤 (ψ (seens κs Ks a) (seen κs R r)) }
-
-  abbrev pub FnOf : {M : Type 1} (𝓤 : URA M) (H : Heap 𝓤) (A : Atoms 𝓤) → Contract 𝓤
-  FnOf 𝓤 H A = tripleOf 𝓤 H A (fn-of .signature) (closing 𝓤 H A fn-of (fn-says 𝓤))
-
-module _ {M : Type 1} {𝓤 : URA M} {H : Heap 𝓤} {A : Atoms 𝓤} {K : Type 0} {W : Given 𝓤 H A} {Γ : List (Item 𝓤)} {E : Env 𝓤 H} {C : Calls 𝓤 H} {Λ : Loops 𝓤 H} {p : Post 𝓤 H} {f : Name} {xs : List Operand} {d : Place} {rest : Body} where
-  pub calls-kinds : K → FmC 𝓤 H (W .laws) C → {k : ℕ} (Ks : List (Kind k)) (R : Kind k) (ψ : Seen Ks → Of R → Type 0) → Triple 𝓤 (C f) (FnOf Ks R ψ 𝓤 H A) → (κs : Lfts k) (qs : Shares k) (a : Sent κs Ks)
-      → Opds K W (raw (FnOf Ks R ψ 𝓤 H A .pre ((κs, qs, tt, a, values κs Ks a), tt)) ∷ Γ) E xs (flat (typesAt (inners Ks) κs) (values κs Ks a))
-      → ((w : Val) (r : typeAt (inner R) κs .Denot) → ψ (seens κs Ks a) (seen κs R r) → Seq K W (‵ (typeAt (inner R) κs .own r (w ∷ [])) ∷ raw (toks 𝓤 A k κs qs) ∷ Γ) (lands C Λ E d w rest p))
-      → Seq K W (‵ (owns (typesAt (inners Ks) κs) a (values κs Ks a)) ∷ raw (toks 𝓤 A k κs qs) ∷ Γ) (runs C Λ E (seq (call f xs d) rest) p)
-  calls-kinds t fm Ks R ψ known κs qs a os next =
-      move t (1 ∷ 0 ∷ []) $ use2 W (raw (onEntry 𝓤 H A (fn-of Ks R ψ .signature) κs qs a (values κs Ks a))) (id⊢ 𝓤 _) $
-      calls-fn t fm (fn-of Ks R ψ) (fn-says Ks R ψ 𝓤) known (κs, qs, tt, a, values κs Ks a) tt (id⊢ 𝓤 _) (λ r _. ψ (seens κs Ks a) (seen κs R r)) (λ r ws. refl) os (λ w r ws e. move t (2 ∷ []) $ drop t $ next w r e)
 
 module _ {M : Type 1} {𝓤 : URA M} {H : Heap 𝓤} {A : Atoms 𝓤} {K : Type 0} {W : Given 𝓤 H A} {Γ : List (Item 𝓤)} {E : Env 𝓤 H} {C : Calls 𝓤 H} {Λ : Loops 𝓤 H} {p : Post 𝓤 H} {xs : List Operand} {d : Place} {rest : Body} where
   pub numbers : K → FmC 𝓤 H (W .laws) C → (mem : Memory → SProp 𝓤) (run : Routine → Fun 𝓤) → Triple 𝓤 (C number-def.name) (CallRefusal 𝓤 H A mem run) → (κ : Lft) (q : Share) (x : RefT (List Device)) (j v : ℕ) → Is (size .row) j (size .val j ∷ []) → Is (byte .row) v (byte .val v ∷ [])

@@ -1,15 +1,19 @@
 // The calls on a chain of MAX6954: a lent row of records, nearest the controller first. Drivers are counted from 1.
 ghost use mathlib.Core.Path.{_≡_};
 ghost use mathlib.Core.List.{[], _∷_};
+ghost use lib.ListN.{length};
 ghost use Rattle.device.specs.PowerUp.{powerUp};
-ghost use Rattle.calls.specs.Calls.{access as accessCall, give, ask, scan, levels as pinLevels, clocks as masterClocks, plane, planeShown, segments, brightness, shown, interrupt, answerMark};
+ghost use Rattle.calls.specs.Calls.{access as accessCall, give, ask, scan, levels as pinLevels, clocks as masterClocks, plane, planeShown, segments, brightness, shown, interrupt, answerMark, askChain, plan, planCheck};
 ghost use Rattle.calls.specs.Outcome.{outcome};
+ghost use Rattle.redraw.specs.PlanBytes.{bytesNumber, bytesAfter};
 use answers::InterruptAnswer;
 use answers::MarkAnswer;
 use answers::ShownAnswer;
 use brightness::BrightnessAnswer;
 use device::Device;
 use display::SegmentAnswer;
+use planner::PlanAnswer;
+use planner::PlanCheckAnswer;
 
 // A driver at power-up.
 #[no_mangle]
@@ -233,4 +237,42 @@ pub extern "C" fn max6954_answer_mark(chain: &[Device], driver: usize) -> MarkAn
     }
     let at = driver - 1;
     answers::mark(chain[at])
+}
+
+// The shortest list of accesses that leads to the wanted contents, 32 bytes for each driver, P0 then P1: into the front of the list.
+#[no_mangle]
+pub extern "C" fn max6954_plan(chain: &[Device], wanted: &[u8], list: &mut [u16]) -> PlanAnswer
+    ensures { λ r. ⌜ outcome (askChain (plan (now (wanted .entry)) (now (list .entry)))) (now (chain .entry)) ≡ record { number = r .number; records = now (chain .entry); back = r .accesses ∷ now (list .exit) } ⌝ }
+{
+    let n = chain.len();
+    let early = lent::call_refusal(chain, 1, 0);
+    let own = planner::wanted_refusal(early, n, wanted.len());
+    let most = redraw::accesses(chain, own, wanted);
+    let number = planner::list_refusal(own, n, most, list.len());
+    redraw::write_list(chain, number, wanted, list, most);
+    planner::plan_answer(number, most)
+}
+
+// Whether a list of accesses leads to the wanted contents, and has no word that a redraw may not use.
+#[no_mangle]
+pub extern "C" fn max6954_plan_check(
+    chain: &[Device],
+    wanted: &[u8],
+    list: &[u16],
+) -> PlanCheckAnswer
+    ensures { λ r. ⌜ outcome (askChain (planCheck (now (wanted .entry)) (now (list .entry)))) (now (chain .entry)) ≡ record { number = r .number; records = now (chain .entry); back = r .accepted ∷ [] } ⌝ }
+{
+    let n = chain.len();
+    let early = lent::call_refusal(chain, 1, 0);
+    let number = planner::wanted_refusal(early, n, wanted.len());
+    let each = redraw::accepted(chain, number, n, wanted, list);
+    planner::check_answer(number, n, list.len(), each)
+}
+
+// The bytes to send for one access of a list for n drivers.
+#[no_mangle]
+pub extern "C" fn max6954_plan_bytes(n: usize, list: &[u16], access: usize, bytes: &mut [u8]) -> u8
+    ensures { λ r. ⌜ (r ≡ bytesNumber n (length (now (list .entry))) access (length (now (bytes .entry)))) × (now (bytes .exit) ≡ bytesAfter n (now (list .entry)) access (now (bytes .entry))) ⌝ }
+{
+    redraw::plan_bytes(n, list, access, bytes)
 }

@@ -39,9 +39,9 @@ acceptsAt d n wanted list i = (ltb i n && ltb n 17 && isWanted wanted i) && acce
 abbrev pub reachTo : List Device → List ℕ → ℕ → ℕ
 reachTo ds wanted m = largest m (λ i. reach (getD ds i powerUp) wanted i)
 
--- the first m drivers accept their words
-abbrev pub acceptTo : List Device → List ℕ → List ℕ → ℕ → Bool
-acceptTo ds wanted list m = below m (λ i. acceptsAt (getD ds i powerUp) (length ds) wanted list i)
+-- the first m drivers accept their words of a list for n
+abbrev pub acceptTo : List Device → ℕ → List ℕ → List ℕ → ℕ → Bool
+acceptTo ds n wanted list m = below m (λ i. acceptsAt (getD ds i powerUp) n wanted list i)
 
 -- the list with the words of the first m drivers in it
 unfoldable pub listTo : List Device → List ℕ → List ℕ → ℕ → ℕ → List ℕ

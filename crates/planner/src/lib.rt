@@ -11,7 +11,7 @@ ghost use Rattle.plans.specs.Act.{acted as actedBy, actOf};
 ghost use Rattle.plans.specs.Words.{keeps as keepsOf, allowedBy};
 ghost use Rattle.plans.specs.Lists.{wordsAt, wantedAt};
 ghost use Rattle.plans.specs.Check.{same as sameOf, acceptedWords};
-ghost use Rattle.plans.specs.Least.{need as needOf, plain as plainOf, least as leastOf};
+ghost use Rattle.plans.specs.Least.{wrong as wrongBy, need as needOf, plain as plainOf, least as leastOf};
 ghost use Rattle.plans.specs.Plan.{clearWord, digitWords, steps, planBy};
 ghost use Rattle.planner.specs.Columns.{put};
 ghost use Rattle.planner.specs.OneDriver.{reach, withDriver, acceptsAt};
@@ -52,8 +52,11 @@ pub fn wanted_refusal(first: u8, n: usize, wanted: usize) -> u8
 pub fn list_refusal(first: u8, n: usize, k: usize, room: usize) -> u8
     ensures { λ r. ⌜ r ≡ firstOf (first ∷ listOf n k room ∷ []) ⌝ }
 {
-    if (first != 0) | (n == 0) {
+    if first != 0 {
         return first;
+    }
+    if n == 0 {
+        return 0;
     }
     if room / n < k { 13 } else { 0 }
 }
@@ -73,8 +76,8 @@ pub fn check_answer(number: u8, n: usize, words: usize, each: bool) -> PlanCheck
     ensures { λ r. ⌜ r ≡ record { number = number; accepted = if (eqb number 0 && ltb 0 n && eqb (words % n) 0 && each) 1 0 } ⌝ }
 {
     let mut accepted = 0;
-    if (number == 0) & (0 < n) & each {
-        if words % n == 0 {
+    if (number == 0) & (0 < n) {
+        if (words % n == 0) & each {
             accepted = 1;
         }
     }
@@ -84,19 +87,23 @@ pub fn check_answer(number: u8, n: usize, words: usize, each: bool) -> PlanCheck
     }
 }
 
+// 1 where a byte isn't right.
+fn wrong(a: u8, x: u8) -> u8
+    ensures { λ r. ⌜ r ≡ wrongBy (eqb a x) ⌝ }
+{
+    if a == x { 0 } else { 1 }
+}
+
 // The words that one digit needs, which holds a and b, and is to hold x and y.
-fn need(a: u8, b: u8, x: u8, y: u8) -> usize
+fn need(a: u8, b: u8, x: u8, y: u8) -> u8
     ensures { λ r. ⌜ r ≡ needOf a b x y ⌝ }
 {
-    if a == x {
-        if b == y { 0 } else { 1 }
-    } else if b == y {
-        1
-    } else if x == y {
-        1
-    } else {
-        2
+    let first = wrong(a, x);
+    let second = wrong(b, y);
+    if x != y {
+        return first + second;
     }
+    if first < second { second } else { first }
 }
 
 // The words that all digits need without a clear, for the wanted contents of place i.
@@ -107,13 +114,13 @@ fn plain(held: Planes, wanted: &[u8], i: usize) -> usize
     let p0 = held.p0;
     let p1 = held.p1;
     let from = 32 * i;
-    let mut sum = 0;
+    let mut sum: u8 = 0;
     let mut k = 0;
     while k < 16 {
         sum += need(p0[k], p1[k], wanted[from + k], wanted[from + 16 + k]);
         k += 1;
     }
-    sum
+    sum as usize
 }
 
 // The least number of words for one driver.
@@ -284,7 +291,8 @@ fn keeps(c: Config, v: u16) -> bool
         & (v / 8 % 2 == c.e as u16)
         & (v / 4 % 2 == c.b as u16)
         & (v % 2 == c.s as u16);
-    stored & !(v / 16 % 2 == 1) & !(v / 128 % 2 == 1) & !(v / 2 % 2 == 1)
+    let zero = !(v / 16 % 2 == 1) & !(v / 128 % 2 == 1) & !(v / 2 % 2 == 1);
+    stored & zero
 }
 
 // A word that a redraw may give.
@@ -359,8 +367,10 @@ fn own_accepted(i: usize, d: Device, n: usize, wanted: &[u8], list: &[u16]) -> b
 pub fn accepts(each: bool, i: usize, d: Device, n: usize, wanted: &[u8], list: &[u16]) -> bool
     ensures { λ r. ⌜ r ≡ (each && acceptsAt d n (now (wanted .entry)) (now (list .entry)) i) ⌝ }
 {
-    if each & (i < n) & (n < 17) & (i < wanted.len() / 32) {
-        return own_accepted(i, d, n, wanted, list);
+    if each {
+        if (i < n) & (n < 17) & (i < wanted.len() / 32) {
+            return own_accepted(i, d, n, wanted, list);
+        }
     }
     false
 }

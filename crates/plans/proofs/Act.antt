@@ -69,7 +69,7 @@ config-kept : (c : Config) (v : ℕ) → keeps c v ≡ true → configOf v ≡ c
 config-kept c v h = same-config (configOf v) c (and-left (sameConfig (configOf v) c) (zeroTPX v) h)
 
 -- a choice of acts is a choice of planes
-clear-or : (p : Planes) (b : Bool) → if b cleared p ≡ acted p (if b clear stay)
+pub clear-or : (p : Planes) (b : Bool) → if b cleared p ≡ acted p (if b clear stay)
 clear-or p true = refl
 clear-or p false = refl
 

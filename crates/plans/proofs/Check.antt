@@ -22,7 +22,7 @@ use Rattle.plans.proofs.Potential.{drawn-sized}
 use Rattle.plans.proofs.Lists.{wanted-at}
 
 -- a test that holds below n holds at each number below n, and conversely
-below-at : (n : ℕ) (f : ℕ → Bool) → below n f ≡ true → (k : ℕ) → k < n → f k ≡ true
+pub below-at : (n : ℕ) (f : ℕ → Bool) → below n f ≡ true → (k : ℕ) → k < n → f k ≡ true
 unfolding below
 below-at zero f t k h = absurd (omega arith)
 below-at (suc n) f t k h = go (below-at n f (and-left (below n f) (f n) t) k) (ℕ-discrete k n)

@@ -62,7 +62,7 @@ unfolding largest
 largest-le zero m f h = omega arith
 largest-le (suc n) m f h = omega (arith, largest-le n m f (λ i l. h i (omega arith)), h n (omega arith))
 
-le-largest : (n : ℕ) (f : ℕ → ℕ) (i : ℕ) → i < n → f i ≤ largest n f
+pub le-largest : (n : ℕ) (f : ℕ → ℕ) (i : ℕ) → i < n → f i ≤ largest n f
 unfolding largest
 le-largest zero f i h = absurd (omega arith)
 le-largest (suc n) f i h = go (le-largest n f i) (decLt i n)
@@ -73,13 +73,13 @@ le-largest (suc n) f i h = go (le-largest n f i) (decLt i n)
 
 -- place i of access a
 module _ (n a i : ℕ) (h : i < n) where
-  place-div : (a * n + i) / n ≡ a
+  pub place-div : (a * n + i) / n ≡ a
   place-div = mul-add-div-right (omega arith) a i ∙ rw (div-eq-of-lt h) (add-zero a)
 
-  place-mod : (a * n + i) % n ≡ i
+  pub place-mod : (a * n + i) % n ≡ i
   place-mod = mul-add-mod-self-right a n i ∙ mod-eq-of-lt h
 
-  place-lt : (k : ℕ) → a < k → a * n + i < k * n
+  pub place-lt : (k : ℕ) → a < k → a * n + i < k * n
   place-lt k l = omega (arith, mul-le-mul-right n l, suc-mul a n)
 
 -- the words to place i of a list that is given by its elements
@@ -95,6 +95,11 @@ small-part l h n m k = go (decLt k n)
     go : Dec (k < n) → getD (take n (drop m l)) k 0 < 256
     go (yes j) = rw (getD-take n (drop m l) k 0 j, getD-drop) (h (m + k))
     go (no j) = rw (List·getD-eq-default (take n (drop m l)) 0 {n = k} (rw length-take (omega arith))) (omega arith)
+
+-- a chain's list has at most 32 accesses
+pub chain-most : (ds : List Device) (wanted : List ℕ) → accesses ds wanted ≤ 32
+unfolding accesses
+chain-most ds wanted = largest-le (length ds) 32 _ (λ i h. least-le (recordAt ds i .registers .planes) (wantedAt wanted i))
 
 module _ (ds : List Device) (wanted : List ℕ) (g : Given ds wanted) where
   pub wanted-at : (i : ℕ) → i < length ds → Wanted (wantedAt wanted i)
@@ -155,15 +160,11 @@ module _ (ds : List Device) (wanted : List ℕ) (g : Given ds wanted) where
       rw planned-length
       (omega (arith, mul-le-mul-right (length ds) (fewest-accesses list a), div-add-mod' (length list) (length ds)))
 
-  chain-most : accesses ds wanted ≤ 32
-  unfolding accesses
-  chain-most = largest-le (length ds) 32 _ (λ i h. least-le (recordAt ds i .registers .planes) (wantedAt wanted i))
-
 pub shortest : Shortest
 shortest ds wanted g =
     record {
       accepted = planned-accepted ds wanted g;
       none-shorter = chain-shorter ds wanted g;
       counted = planned-length ds wanted g;
-      at-most = chain-most ds wanted g;
+      at-most = chain-most ds wanted;
     }

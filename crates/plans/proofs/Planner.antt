@@ -160,29 +160,20 @@ module _ (p q : Planes) (zp : Sized p) (w : Wanted q) where
       ))
 
 -- as many words as the rule says
-length-digit : (p q : Planes) (k : ℕ) → length (digitWordsAt p q k) ≡ needAt p q k
-length-digit p q k = go (eqb (getD (p .p0) k 0) x) (eqb (getD (p .p1) k 0) y) (eqb x y)
-  where
-    x : ℕ
-    x = getD (q .p0) k 0
+pub length-words : (k x y : ℕ) (r s v : Bool) → length (wordsBy r s v k x y) ≡ needBy r s v
+length-words k x y true true true = refl
+length-words k x y true true false = refl
+length-words k x y true false true = refl
+length-words k x y true false false = refl
+length-words k x y false true true = refl
+length-words k x y false true false = refl
+length-words k x y false false true = refl
+length-words k x y false false false = refl
 
-    y : ℕ
-    y = getD (q .p1) k 0
-
-    go : (s u t : Bool) → length (wordsBy s u t k x y) ≡ needBy s u t
-    go true true true = refl
-    go true true false = refl
-    go true false true = refl
-    go true false false = refl
-    go false true true = refl
-    go false true false = refl
-    go false false true = refl
-    go false false false = refl
-
-length-steps : (p q : Planes) (n : ℕ) → length (steps p q n) ≡ total n (needAt p q)
+pub length-steps : (p q : Planes) (n : ℕ) → length (steps p q n) ≡ total n (needAt p q)
 unfolding steps total
 length-steps p q zero = refl
-length-steps p q (suc n) = rw (length-append, length-steps p q n, length-digit p q n)
+length-steps p q (suc n) = rw (length-append, length-steps p q n, length-words)
 
 -- and allowed
 digit-may : (c : Config) (p q : Planes) → Wanted q → (k : ℕ) → k < 16 → every (allowedBy c) (digitWordsAt p q k) ≡ true

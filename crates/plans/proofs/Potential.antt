@@ -60,7 +60,7 @@ need-none : (v : Bool) → needBy true true v ≤ 0
 need-none true = omega arith
 need-none false = omega arith
 
-need-le : (a b x y : ℕ) → need a b x y ≤ 2
+pub need-le : (a b x y : ℕ) → need a b x y ≤ 2
 need-le a b x y = needBy-le (eqb a x) (eqb b y) (eqb x y)
 
 -- one byte changed
@@ -146,9 +146,12 @@ least-same q = omega (arith, total-le 16 0 (needAt q q) (λ k. none (getD (q .p0
     none : (x y : ℕ) → need x y x y ≤ 0
     none x y = rw (eq-eqb x x refl, eq-eqb y y refl) (need-none (eqb x y))
 
--- a driver needs at most 32
+-- a digit needs at most two, a driver at most 32
+pub needs-le : (p q : Planes) (n : ℕ) → total n (needAt p q) ≤ n * 2
+needs-le p q n = total-le n 2 (needAt p q) (λ k. need-le (getD (p .p0) k 0) (getD (p .p1) k 0) (getD (q .p0) k 0) (getD (q .p1) k 0))
+
 pub least-le : (p q : Planes) → least p q ≤ 32
-least-le p q = omega (arith, total-le 16 2 (needAt p q) (λ k. need-le (getD (p .p0) k 0) (getD (p .p1) k 0) (getD (q .p0) k 0) (getD (q .p1) k 0)))
+least-le p q = omega (arith, needs-le p q 16)
 
 -- an accepted list has at least so many words
 pub none-shorter : (d : Device) (q : Planes) (ws : List ℕ) → Sized (d .registers .planes) → Accepted d q ws → least (d .registers .planes) q ≤ length ws

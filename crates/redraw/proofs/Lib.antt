@@ -1,1 +1,4 @@
+pub mod BytesLaws
 pub mod OnWire
+pub mod Passes
+pub mod CallLaws

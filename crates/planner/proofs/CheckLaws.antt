@@ -1,0 +1,71 @@
+-- One driver's words by the planes alone, word by word, and digits compared one by one.
+-- Assumes nothing.
+use Prim.Native.Nat.{ℕ, zero, suc, _+_, _*_, _/_, _<_, _≤_}
+use native.Mathlib.Nat.{div-add-mod'}
+use native.Mathlib.Omega.{arith}
+use mathlib.Core.Bool.{Bool, true, false, _&&_}
+use mathlib.Core.List.{List, _∷_}
+use mathlib.Core.Path.{_≡_, refl, sym, ap₂, _∙_}
+use lib.ListN.{length, getD, drop, drop-of-length-le}
+use lib.Seq.{drop-cons}
+use Rattle.ground.proofs.Lists.{length-tabulate, getD-tabulate}
+use Rattle.digits.specs.declared.Planes.{Planes}
+use Rattle.controls.specs.declared.Config.{Config}
+use Rattle.device.specs.Table15.{afterWords}
+use Rattle.device.specs.declared.Device.{Device}
+use Rattle.plans.specs.Words.{allowedBy, allowed, every}
+use Rattle.plans.specs.Lists.{wordsAt}
+use Rattle.plans.specs.Check.{below, same, acceptedWords}
+use Rattle.plans.specs.Act.{acted, actOf, drawn}
+use Rattle.plans.proofs.Act.{after-planes}
+use Rattle.plans.proofs.Lists.{place-lt}
+use Rattle.plans.proofs.Check.{below-at}
+
+-- tests that are equal below n
+pub below-ext : (n : ℕ) (f g : ℕ → Bool) → ((i : ℕ) → i < n → f i ≡ g i) → below n f ≡ below n g
+unfolding below
+below-ext zero f g h = refl
+below-ext (suc n) f g h = ap₂ _&&_ (below-ext n f g (λ i l. h i (omega arith))) (h n (omega arith))
+
+-- a test that fails somewhere
+pub below-not : (n : ℕ) (f : ℕ → Bool) (k : ℕ) → k < n → f k ≡ false → below n f ≡ false
+below-not n f k h e = go (below n f) refl
+  where
+    go : (b : Bool) → below n f ≡ b → b ≡ false
+    go true t = sym (below-at n f t k h) ∙ e
+    go false t = refl
+
+-- words that a driver with configuration c and planes p accepts, which is to hold q
+abbrev pub fromPlanes : Config → Planes → Planes → List ℕ → Bool
+fromPlanes c q p ws = every (allowedBy c) ws && same (drawn p ws) q
+
+pub words-planes : (d : Device) (q : Planes) (ws : List ℕ) → acceptedWords d q ws ≡ fromPlanes (d .registers .config) q (d .registers .planes) ws
+unfolding acceptedWords
+words-planes d q ws = go (every (allowed d) ws) refl
+  where
+    go : (b : Bool) → every (allowed d) ws ≡ b → (b && same (afterWords d ws .registers .planes) q) ≡ (b && same (drawn (d .registers .planes) ws) q)
+    go true e = rw (after-planes ws d e)
+    go false e = refl
+
+-- the word of access a to place i: allowed, refused, or past the end
+module _ (c : Config) (q p : Planes) (list : List ℕ) (n i a : ℕ) where
+  module _ (at : ℕ) (h : a < length list / n) (e : at ≡ a * n + i) where
+    next : drop a (wordsAt n list i) ≡ getD list at 0 ∷ drop (suc a) (wordsAt n list i)
+    next = rw (drop-cons (wordsAt n list i) a 0 (rw length-tabulate h), getD-tabulate _ (λ b. getD list (b * n + i) 0) 0 a h, e)
+
+    pub word-taken : allowedBy c (getD list at 0) ≡ true
+        → fromPlanes c q p (drop a (wordsAt n list i)) ≡ fromPlanes c q (acted p (actOf (getD list at 0))) (drop (suc a) (wordsAt n list i))
+    unfolding every drawn
+    word-taken t = rw (next, t)
+
+    pub word-refused : allowedBy c (getD list at 0) ≡ false → fromPlanes c q p (drop a (wordsAt n list i)) ≡ false
+    unfolding every drawn
+    word-refused t = rw (next, t)
+
+  pub words-done : length list / n ≤ a → fromPlanes c q p (drop a (wordsAt n list i)) ≡ same p q
+  unfolding every drawn
+  words-done h = rw (drop-of-length-le (wordsAt n list i) {i = a} (rw length-tabulate h))
+
+-- place i of access a is among m words
+pub place-in : (m n i : ℕ) → i < n → (a : ℕ) → a < m / n → a * n + i < m
+place-in m n i h a l = omega (arith, place-lt n a i h (m / n) l, div-add-mod' m n)

@@ -1,0 +1,7 @@
+-- `planner::allowed` meets its contract. Assumes nothing.
+use borrow.Author.Needs.{needs}
+use Rattle.planner.proofs.allowed.Statement.{statement}
+use Rattle.planner.proofs.allowed.Tie as tie
+
+pub allowed-spec : {M : Type 1} → statement M
+allowed-spec = tie.close (tie.spec (λ c κs. search needs) (λ c. simp (c .keeps .ensures)))

@@ -1,0 +1,7 @@
+-- `planner::wrong` meets its contract. Assumes nothing.
+use Rattle.ground.proofs.Tests.{tests}
+use Rattle.planner.proofs.wrong.Statement.{statement}
+use Rattle.planner.proofs.wrong.Tie as tie
+
+pub wrong-spec : {M : Type 1} → statement M
+wrong-spec = tie.close (tie.spec (λ c. search tests) (λ c. search tests))

@@ -1,0 +1,130 @@
+-- The outcome of the planner's call and of its check, by the number as it is found and by the passes over the chain.
+--     early-is, own-is     the number before 13.        own-zero       what a number of 0 tells of the chain and of the wanted contents
+--     plan-outcome, check-outcome      the outcomes
+-- Assumes nothing.
+use Prim.Native.Nat.{ℕ, _*_, _%_, _<_, _≤_}
+use native.Mathlib.Omega.{arith}
+use mathlib.Core.Bool.{Bool, true, false, _&&_}
+use mathlib.Core.List.{List, [], _∷_, _++_}
+use mathlib.Core.Path.{_≡_, refl, sym, ap, _∙_}
+use lib.Dec.{eqb, ltb}
+use lib.ListN.{length, drop}
+use borrow.Author.Tests.{eqb-true, ltb-true, ltb-false, le-leb, lt-ltb}
+use Rattle.ground.specs.Choice.{if}
+use Rattle.ground.proofs.Truth.{passed, and-left}
+use Rattle.refusals.specs.Refusals.{chainRefusal, driverRefusal, soundRefusal, wantedRefusal, listRefusal, firstOf}
+use Rattle.refusals.proofs.RefusalLaws.{first-zero, first-last, found-last}
+use Rattle.device.specs.declared.Device.{Device}
+use Rattle.plans.specs.Check.{acceptedList}
+use Rattle.plans.specs.Plan.{accesses, planned}
+use Rattle.planner.specs.OneDriver.{reachTo, acceptTo, listTo}
+use Rattle.planner.proofs.ChainLaws.{reach-accesses, accept-list}
+use Rattle.planner.proofs.Listed.{listed}
+use Rattle.calls.specs.Calls.{plan, planCheck, askChain}
+use Rattle.calls.specs.CallRefusals.{allSound}
+use Rattle.calls.specs.Outcome.{number, after, reply, outcome, Outcome}
+use Rattle.calls.proofs.Accepted.{after-same}
+use Rattle.pass.specs.Found.{toPass, callRefusal}
+use Rattle.pass.proofs.FoundLaws.{chain-long}
+
+module _ (ds : List Device) (wanted : List ℕ) where
+  abbrev n : ℕ
+  n = length ds
+
+  -- 1 and 7, as a call to driver 1 has them
+  abbrev pub early : ℕ
+  early = callRefusal ds 1 0
+
+  -- and 12
+  abbrev pub own : ℕ
+  own = firstOf (early ∷ wantedRefusal n (length wanted) ∷ [])
+
+  some : chainRefusal n ≡ 0 → 0 < n
+  some e = ltb-true 0 n (and-left (ltb 0 n) (ltb n 17) (passed (ltb 0 n && ltb n 17) 0 0 e .0))
+
+  early-is : early ≡ firstOf (chainRefusal n ∷ soundRefusal (allSound ds) ∷ [])
+  early-is = go (eqb (chainRefusal n) 0) refl
+    where
+      go : (b : Bool) → eqb (chainRefusal n) 0 ≡ b
+          → if b (firstOf (driverRefusal n 1 ∷ 0 ∷ soundRefusal (allSound ds) ∷ [])) (chainRefusal n) ≡ if b (firstOf (soundRefusal (allSound ds) ∷ [])) (chainRefusal n)
+      go true e = rw (le-leb 1 n (some (eqb-true (chainRefusal n) 0 e))) refl
+      go false e = refl
+
+  own-is : own ≡ firstOf (chainRefusal n ∷ soundRefusal (allSound ds) ∷ wantedRefusal n (length wanted) ∷ [])
+  own-is =
+      ap (λ (k : ℕ). firstOf (k ∷ wantedRefusal n (length wanted) ∷ [])) early-is
+      ∙ ap (λ (w : ℕ). if (eqb (firstOf (chainRefusal n ∷ soundRefusal (allSound ds) ∷ [])) 0) w (firstOf (chainRefusal n ∷ soundRefusal (allSound ds) ∷ []))) (first-last (wantedRefusal n (length wanted)))
+      ∙ found-last (chainRefusal n ∷ soundRefusal (allSound ds) ∷ []) (wantedRefusal n (length wanted))
+
+  -- a number of 0 tells: some drivers, at most 16, with 32 wanted bytes each
+  own-zero : own ≡ 0 → (0 < n) × (n ≤ 16) × (length wanted ≡ 32 * n)
+  own-zero z =
+      let a = first-zero (chainRefusal n) (soundRefusal (allSound ds) ∷ wantedRefusal n (length wanted) ∷ []) (sym own-is ∙ z) in
+      let b = first-zero (soundRefusal (allSound ds)) (wantedRefusal n (length wanted) ∷ []) (a .1) in
+      let c = first-zero (wantedRefusal n (length wanted)) [] (b .1) in
+      (some (a .0), chain-long n (a .0), eqb-true _ _ (passed (eqb (length wanted) (32 * n)) 0 11 (c .0) .0))
+
+  module _ (list : List ℕ) where
+    abbrev most : ℕ
+    most = reachTo ds wanted (toPass own n)
+
+    -- and 13
+    abbrev pub number-of-plan : ℕ
+    number-of-plan = firstOf (own ∷ listRefusal n most (length list) ∷ [])
+
+    most-is : own ≡ 0 → most ≡ accesses ds wanted
+    most-is z = rw z (reach-accesses ds wanted (own-zero z .2))
+
+    plan-number : number (askChain (plan wanted list)) ds ≡ number-of-plan
+    unfolding number
+    plan-number =
+        sym (found-last (chainRefusal n ∷ soundRefusal (allSound ds) ∷ wantedRefusal n (length wanted) ∷ []) (listRefusal n (accesses ds wanted) (length list)))
+        ∙ ap (λ (k : ℕ). if (eqb k 0) (listRefusal n (accesses ds wanted) (length list)) k) (sym own-is)
+        ∙ go (eqb own 0) refl
+      where
+        go : (b : Bool) → eqb own 0 ≡ b → if b (listRefusal n (accesses ds wanted) (length list)) own ≡ if b (firstOf (listRefusal n most (length list) ∷ [])) own
+        go true e = rw (most-is (eqb-true own 0 e)) (sym (first-last (listRefusal n (accesses ds wanted) (length list))))
+        go false e = refl
+
+    -- the list's words, or the list as it was
+    plan-list : (b : Bool) → eqb number-of-plan 0 ≡ b
+        → if b (accesses ds wanted ∷ planned ds wanted ++ drop (accesses ds wanted * n) list) (0 ∷ list) ≡ (if b most 0) ∷ listTo ds wanted list most (if b n 0)
+    unfolding listTo
+    plan-list true e =
+        let z = first-zero own (listRefusal n most (length list) ∷ []) (eqb-true number-of-plan 0 e) in
+        let g = own-zero (z .0) in
+        let r = first-zero (listRefusal n most (length list)) [] (z .1) in
+        let f : accesses ds wanted * n ≤ length list = room (accesses ds wanted) (ap (λ (k : ℕ). listRefusal n k (length list)) (sym (most-is (z .0))) ∙ r .0) in
+        rw (most-is (z .0)) (ap (λ (l : List ℕ). accesses ds wanted ∷ l) (sym (listed ds wanted list (g .0) (g .1) (g .2) f)))
+      where
+        room : (k : ℕ) → listRefusal n k (length list) ≡ 0 → k * n ≤ length list
+        room k e = ltb-false _ _ (go (ltb (length list) (k * n)) e)
+          where
+            go : (b : Bool) → if {A = ℕ} b 13 0 ≡ 0 → b ≡ false
+            go true z = absurd (omega (arith, z))
+            go false z = refl
+    plan-list false e = refl
+
+    pub plan-outcome : outcome (askChain (plan wanted list)) ds
+        ≡ record { number = number-of-plan; records = ds; back = (if (eqb number-of-plan 0) most 0) ∷ listTo ds wanted list most (toPass number-of-plan n) }
+    unfolding reply
+    plan-outcome = rw (plan-number, after-same (askChain (plan wanted list)) ds refl, plan-list (eqb number-of-plan 0) refl)
+
+    abbrev each : Bool
+    each = acceptTo ds n wanted list (toPass own n)
+
+    check-number : number (askChain (planCheck wanted list)) ds ≡ own
+    unfolding number
+    check-number = sym own-is
+
+    check-answer : (b : Bool) → eqb own 0 ≡ b
+        → if {A = List ℕ} b (if (acceptedList ds wanted list) 1 0 ∷ []) (0 ∷ []) ≡ if (b && ltb 0 n && eqb (length list % n) 0 && acceptTo ds n wanted list (if b n 0)) 1 0 ∷ []
+    check-answer true e =
+        let g = own-zero (eqb-true own 0 e) in
+        rw (lt-ltb 0 n (g .0), sym (accept-list ds wanted list (g .1) (g .2))) refl
+    check-answer false e = refl
+
+    pub check-outcome : outcome (askChain (planCheck wanted list)) ds
+        ≡ record { number = own; records = ds; back = if (eqb own 0 && ltb 0 n && eqb (length list % n) 0 && each) 1 0 ∷ [] }
+    unfolding reply
+    check-outcome = rw (check-number, after-same (askChain (planCheck wanted list)) ds refl, check-answer (eqb own 0) refl)

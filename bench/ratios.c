@@ -1,4 +1,5 @@
-/* Times each call of the library beside the hand-tuned double's, in turn in one process: the least of many rounds, and the ratio with its bar. */
+/* Times each call of the library beside the hand-tuned double's, and a plan beside the rule in plain C, in turn in one process: the least of many
+   rounds, and the ratio with its bar. */
 #define _GNU_SOURCE
 #include <stdio.h>
 #include <stdlib.h>
@@ -7,16 +8,18 @@
 #ifdef __linux__
 #include <sched.h>
 #endif
+#include "plain.h"
 #include "random.h"
 #include "tuned.h"
 
-enum { ROUNDS = 100, POOL = 32768 };
+enum { ROUNDS = 100, POOL = 32768, PICTURES = 16 };
 
 enum { RANDOM, READS, DIGITS };
 static const char *const accesses[] = { "access random", "access reads", "access digits" };
 
 static uint8_t words[3][POOL], answer[512], p0[16], p1[16];
-static uint16_t font[128];
+static uint16_t font[128], list[16 * MAX6954_MOST_ACCESSES];
+static uint8_t pictures[PICTURES][16 * MAX6954_WANTED_SIZE];
 
 /* What a line of the table is timed on. */
 typedef struct {
@@ -55,6 +58,10 @@ BOTH(answer_mark, answer_mark(chain, n, DRIVER).mark)
 BOTH(plane_number, plane_number(chain, n, DRIVER, p0, 16, p1, 16, 2, 9))
 BOTH(plane_shown, plane_shown(chain, n, DRIVER, p0, 16, p1, 16, 2, 9).plane)
 BOTH(plane, plane(chain, n, DRIVER, p0, 16, p1, 16, 2, 9)[0])
+
+#define PLAN (chain, n, pictures[turn % PICTURES], n * MAX6954_WANTED_SIZE, list, n * MAX6954_MOST_ACCESSES)
+TURNS(plan_ours, (unsigned)max6954_plan PLAN.accesses)
+TURNS(plan_plain, (unsigned)plain_plan PLAN.accesses)
 
 static const struct {
     const char *name;
@@ -207,6 +214,13 @@ static void call_lines(void)
             line(calls[i].name, calls[i].ours, calls[i].tuned, calls[i].segments, (setup){ lengths[a], 0, NULL }, calls[i].bar);
 }
 
+/* Random planes, of which nearly every byte is wrong: a driver needs about 32 words. */
+static void plan_line(void)
+{
+    fill(pictures, sizeof pictures);
+    line("plan", plan_ours, plan_plain, 7, (setup){ 16, 0, NULL }, 2.0);
+}
+
 /* Stays on the core that it is on, where the system has a call for it. */
 static void pin(void)
 {
@@ -231,6 +245,9 @@ int main(void)
     printf("call           drivers clocks  ours, ns tuned, ns   ratio   bar\n");
     access_lines();
     call_lines();
+    printf("\na full redraw planned, beside the same rule in plain C at -O2\n");
+    printf("call           drivers clocks  ours, ns plain, ns   ratio   bar\n");
+    plan_line();
     puts(misses ? "MISSED:" : "every bar is met");
     for (int i = 0; i < misses; i++)
         printf("  %s\n", missed[i]);

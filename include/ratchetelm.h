@@ -4,8 +4,8 @@
    No call allocates, keeps a pointer or writes where it was not lent. Any bytes are a record: one that isn't sound is refused, never undefined.
 
    The caller sees to it that a pointer is valid and aligned for the length that comes with it (NULL will do for 0), that what a call writes (the
-   chain of an access, a scan, pin levels or clocks; the answer bytes) overlaps nothing else that is lent to it, so answer isn't sent, and that
-   nobody else writes the records meanwhile. Lengths count elements: records, bytes, or words of a glyph table.
+   chain of an access, a scan, pin levels or clocks; the answer bytes; a plan's list or its bytes) overlaps nothing else that is lent to it, so
+   answer isn't sent, and that nobody else writes the records meanwhile. Lengths count elements: records, bytes, or words of a glyph table or list.
 
    Each call gives a number: 0 where it is served, else the lowest of these that applies, and then no record and no lent byte has changed:
      1 the chain has 0 or more than 16 records
@@ -16,24 +16,30 @@
      6 cathode above 7, pin levels above 31, a digit (alone or in a range) above 15, a range's last digit below its first, a lent plane not 16
        long, or a glyph table not 128 long
      7 some record of the chain isn't sound: a field doesn't fit its register, the blink count isn't below 4,000,000, or the answer mark is above 1
-   Any call may give 1 and 7, one that names a driver 2 too; which of 3 to 6 it may give stands with it. */
+    12 wanted planes not 32 bytes a driver
+    13 room for the list too small for the shortest
+   Any call that is lent a chain may give 1 and 7, one that names a driver 2 too; which of the others it may give stands with it. */
 #ifndef RATCHETELM_H
 #define RATCHETELM_H
 
 #include <stddef.h>
 #include <stdint.h>
 
-/* 0.2.0: 10,000 for each of the first number, 100 of the second, 1 of the third. */
-#define RATCHETELM_VERSION 200
+/* 0.3.0: 10,000 for each of the first number, 100 of the second, 1 of the third. */
+#define RATCHETELM_VERSION 300
 
 /* The bytes of a record as the library has it. A program can test at its start that its compiler lays it out alike: sizeof(max6954_device) is this. */
 #define MAX6954_DEVICE_SIZE 80
+
+/* The wanted bytes of one driver, and the most accesses that a plan has: 13 isn't given where the room is so many words for each driver. */
+#define MAX6954_WANTED_SIZE 32
+#define MAX6954_MOST_ACCESSES 32
 
 #ifdef __cplusplus
 extern "C" {
 #endif
 
-/* The words of a number: 1 to 7 are the calls', 8 and 9 the panel program's. */
+/* The words of a number: 1 to 7, 12 and 13 are the calls', 8 and 9 the panel program's. */
 static inline const char *max6954_refusal_text(uint8_t number)
 {
     switch (number) {
@@ -58,6 +64,10 @@ static inline const char *max6954_refusal_text(uint8_t number)
         return "script: wrong mark, unknown kind, cut record, length not fitting its kind, or a chain record that isn't first";
     case 9:
         return "script longer than 65,536 bytes";
+    case 12:
+        return "wanted planes not 32 bytes a driver";
+    case 13:
+        return "room for the list too small for the shortest";
     default:
         return "not a number that is given";
     }
@@ -156,6 +166,16 @@ typedef struct {
     uint8_t mark;    /* 1 when set, else 0; 0 where refused */
 } max6954_mark_answer;
 
+typedef struct {
+    uint8_t number;
+    size_t accesses;    /* of the list, 0 to 32; 0 where refused */
+} max6954_plan_answer;
+
+typedef struct {
+    uint8_t number;
+    uint8_t accepted;    /* 1 when the list is accepted, else 0; 0 where refused */
+} max6954_plan_check_answer;
+
 /* A driver at power-up: in shutdown, every cathode fitted with a 7-segment pair. */
 max6954_device max6954_power_up(void);
 
@@ -208,6 +228,21 @@ static inline const uint8_t *max6954_plane(const max6954_device *chain, size_t n
     const max6954_shown_answer shown = max6954_plane_shown(chain, n, driver, p0, p0_length, p1, p1_length, first, last);
     return shown.number ? NULL : (shown.plane ? p1 : p0) + first;
 }
+
+/* The fewest accesses that lead from the planes of a chain to wanted ones, which are 32 bytes a driver, P0 then P1, driver 1's first. The list has
+   a word to each driver for each access, driver 1's first. A driver's words are a clear if that makes them fewer, its digits rising, P0's write
+   before P1's, and then 0000 while others need more. Words after the list stay; max6954_plan_bytes gives what to send. Gives 12 and 13. */
+max6954_plan_answer max6954_plan(const max6954_device *chain, size_t n, const uint8_t *wanted, size_t wanted_length, uint16_t *list, size_t room);
+
+/* Whether a list, of any length, leads there too: it is whole accesses, ends in the wanted planes, and has no other words than 0000, writes to
+   digits (0x20 to 0x2F, 0x40 to 0x4F, 0x60 to 0x6F), and configuration writes with the driver's own I, E, B and S, with P, T and X 0 and with any
+   R, which clears. Gives 12. */
+max6954_plan_check_answer max6954_plan_check(const max6954_device *chain, size_t n, const uint8_t *wanted, size_t wanted_length,
+                                             const uint16_t *list, size_t list_length);
+
+/* The 2n bytes to send for an access of a list, counted from 0: to be given to max6954_access with 16n clocks. Bytes after them stay. Gives 1 for n,
+   4 where the list lacks that access, and 5 where the room is under 2n. */
+uint8_t max6954_plan_bytes(size_t n, const uint16_t *list, size_t list_length, size_t access, uint8_t *bytes, size_t room);
 
 #ifdef __cplusplus
 }

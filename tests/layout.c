@@ -256,6 +256,24 @@ static void answers(void)
     holds("refused", "mark answer", m4.number == 2 && m4.mark == 0);
 }
 
+/* So of a plan's: the drivers are cleared, and then one digit of the driver is written. */
+static void plan_answers(void)
+{
+    static uint8_t wanted[DRIVERS * MAX6954_WANTED_SIZE];
+    uint16_t list[DRIVERS * MAX6954_MOST_ACCESSES];
+    const size_t size = sizeof wanted, room = sizeof list / sizeof list[0];
+    wanted[MAX6954_WANTED_SIZE * (DRIVER - 1) + 5] = 1;
+    prepare("");
+    holds("two words", "plan answer", sizeof(max6954_plan_answer) == 2 * sizeof(size_t) && offsetof(max6954_plan_answer, accesses) == sizeof(size_t));
+    const max6954_plan_answer p = max6954_plan(chain, DRIVERS, wanted, size, list, room), p12 = max6954_plan(chain, DRIVERS, wanted, size - 1, list, room);
+    holds("served", "plan answer", p.number == 0 && p.accesses == 2);
+    holds("refused", "plan answer", p12.number == 12 && p12.accesses == 0);
+    const max6954_plan_check_answer c = max6954_plan_check(chain, DRIVERS, wanted, size, list, DRIVERS * p.accesses);
+    const max6954_plan_check_answer c12 = max6954_plan_check(chain, DRIVERS, wanted, size - 1, list, DRIVERS * p.accesses);
+    holds("served", "plan check answer", c.number == 0 && c.accepted == 1);
+    holds("refused", "plan check answer", c12.number == 12 && c12.accepted == 0);
+}
+
 int main(void)
 {
     holds("the size that the header names", "device", sizeof(max6954_device) == MAX6954_DEVICE_SIZE);
@@ -269,6 +287,7 @@ int main(void)
         holds("sound up to its bound", f->name, each_element(f, bounded));
     }
     answers();
+    plan_answers();
     printf("%d passed, %d failed\n", passed, failed);
     return failed != 0;
 }

@@ -1,4 +1,4 @@
-/* The exported calls from C: bench examples on a chain, each number with nothing changed, what a driver shows, and answer marks. */
+/* The exported calls from C: bench examples on a chain, each number with nothing changed, what a driver shows, answer marks, and plans. */
 #include <stddef.h>
 #include <stdio.h>
 #include <string.h>
@@ -121,7 +121,7 @@ static void refusals(void)
     refused("7: an answer mark of 2", 7, max6954_answer_mark(chain, 3, 1).number);
 }
 
-/* Document 01's table of numbers. */
+/* Document 01's table of numbers, and document 02's 12 and 13. */
 static void words(void)
 {
     static const char *const table[] = {
@@ -136,10 +136,12 @@ static void words(void)
         "some record of the chain isn't sound",
         "script: wrong mark, unknown kind, cut record, length not fitting its kind, or a chain record that isn't first",
         "script longer than 65,536 bytes",
+        [12] = "wanted planes not 32 bytes a driver",
+        "room for the list too small for the shortest",
     };
     int alike = 1;
-    for (int i = 0; i < 10; i++)
-        alike = alike && strcmp(max6954_refusal_text((uint8_t)i), table[i]) == 0;
+    for (int i = 0; i < 14; i++)
+        alike = alike && (!table[i] || strcmp(max6954_refusal_text((uint8_t)i), table[i]) == 0);
     holds("each number has its words", alike);
     holds("a number that isn't given has words too", strcmp(max6954_refusal_text(10), max6954_refusal_text(255)) == 0 && strlen(max6954_refusal_text(10)) > 0);
 }
@@ -213,6 +215,175 @@ static void answer_marks(void)
     holds("0 clocks decide it afresh", read && max6954_access(chain, 2, 0, NULL, 0, NULL, 0) == 0 && marked(0, 1));
 }
 
+enum { GUARD = 0xEEEE, WANTED = MAX6954_WANTED_SIZE, MOST = MAX6954_MOST_ACCESSES };
+
+/* Wanted planes, and room for a list with guard words around it. */
+static uint8_t wanted[16 * WANTED];
+static uint16_t lent[1 + 16 * MOST + 1], *const list = lent + 1;
+
+/* Sets the guards, and wants the planes that the drivers have. */
+static void fresh_plan(size_t n)
+{
+    for (size_t i = 0; i < sizeof lent / sizeof lent[0]; i++)
+        lent[i] = GUARD;
+    for (size_t i = 0; i < n; i++) {
+        memcpy(wanted + WANTED * i, chain[i].registers.planes.p0, 16);
+        memcpy(wanted + WANTED * i + 16, chain[i].registers.planes.p1, 16);
+    }
+    remember();
+}
+
+/* Three drivers. The first needs a digit in both planes and one in P1, the second is best cleared before its one digit, and to the third, which has
+   one byte to become 0, a clear saves nothing. */
+static void fresh_three(void)
+{
+    fresh();
+    chain[1].registers.config = (max6954_config){ 1, 1, 1, 1 };
+    memset(&chain[2].registers.planes, 0, sizeof chain[2].registers.planes);
+    chain[2].registers.planes.p0[4] = 1;
+    fresh_plan(3);
+    wanted[9] = wanted[16 + 9] = 0x7F;
+    wanted[16 + 15] = 3;
+    memset(wanted + WANTED, 0, 2 * WANTED);
+    wanted[WANTED + 2] = 1;
+    wanted[WANTED + 16 + 2] = 2;
+}
+
+static const uint16_t three[9] = { 0x697F, 0x046D, 0x2400, 0x4F03, 0x2201, 0, 0, 0x4202, 0 };
+
+/* Whether a plan gives this number and so many accesses, and changes no record and no word but those of the list. */
+static int planned(size_t n, size_t length, size_t space, int number, size_t accesses)
+{
+    const max6954_plan_answer a = max6954_plan(chain, n, wanted, length, list, space);
+    int all = a.number == number && a.accesses == accesses && lent[0] == GUARD && memcmp(records, chain, sizeof chain) == 0;
+    for (size_t i = n * accesses; i <= 16 * MOST; i++)
+        all = all && list[i] == GUARD;
+    return all;
+}
+
+/* Sends the list access by access. Then each driver has the wanted planes, and all else but its shift word as before. */
+static int redraws(size_t n, size_t accesses)
+{
+    uint8_t bytes[2 * 16];
+    int all = 1;
+    remember();
+    for (size_t k = 0; k < accesses; k++) {
+        all = all && max6954_plan_bytes(n, list, n * accesses, k, bytes, sizeof bytes) == 0;
+        all = all && max6954_access(chain, n, 16 * n, bytes, 2 * n, answer, sizeof answer) == 0;
+    }
+    for (size_t i = 0; i < n; i++) {
+        max6954_device d = records[i];
+        memcpy(d.registers.planes.p0, wanted + WANTED * i, 16);
+        memcpy(d.registers.planes.p1, wanted + WANTED * i + 16, 16);
+        d.shift = chain[i].shift;
+        all = all && memcmp(&d, &chain[i], sizeof d) == 0;
+    }
+    return all;
+}
+
+static void plans(void)
+{
+    fresh_three();
+    holds("plan: three accesses to three drivers, and the room after them stays",
+          planned(3, 3 * WANTED, 3 * MOST, 0, 3) && memcmp(list, three, sizeof three) == 0);
+    fresh_three();
+    holds("plan: room for the list alone", planned(3, 3 * WANTED, 9, 0, 3) && memcmp(list, three, sizeof three) == 0);
+    holds("sent access by access, it ends in the wanted planes", redraws(3, 3));
+    fresh_plan(3);
+    holds("plan: no access where nothing is to do, and no room is needed",
+          planned(3, 3 * WANTED, 0, 0, 0) && max6954_plan(chain, 3, wanted, 3 * WANTED, NULL, 0).number == 0);
+    fresh();
+    fresh_plan(16);
+    for (size_t i = 0; i < sizeof wanted; i++)
+        wanted[i] = (uint8_t)(0x80 + i);
+    holds("plan: 32 accesses where every byte of sixteen drivers is wrong", planned(16, 16 * WANTED, 16 * MOST, 0, MOST));
+    holds("sent, they end in the wanted planes", redraws(16, MOST));
+    fresh_plan(16);
+    for (size_t i = 0; i < sizeof wanted; i++)
+        wanted[i] = (uint8_t)(1 + i % 16);
+    holds("plan: 16 accesses where the planes of each are wanted alike", planned(16, 16 * WANTED, 16 * 16, 0, 16));
+    holds("sent, they end in the wanted planes too", redraws(16, 16));
+}
+
+static void refused_plans(void)
+{
+    fresh_three();
+    chain[2].registers.controls.limit = 8;
+    remember();
+    holds("plan, 1: no record, before 12 and 13", planned(0, 1, 0, 1, 0) && max6954_plan(NULL, 0, NULL, 0, NULL, 0).number == 1);
+    holds("plan, 1: seventeen records, before 7", planned(17, 1, 0, 1, 0));
+    holds("plan, 7: an unsound record, before 12 and 13", planned(3, 3 * WANTED - 1, 0, 7, 0));
+    fresh_three();
+    holds("plan, 12: a wanted byte too few or too many, before 13", planned(3, 3 * WANTED - 1, 0, 12, 0) && planned(3, 3 * WANTED + 1, 0, 12, 0));
+    holds("plan, 12: the wanted bytes of two drivers, or of none", planned(3, 2 * WANTED, 3 * MOST, 12, 0) && planned(3, 0, 3 * MOST, 12, 0));
+    holds("plan, 13: room for a word less than the list, or for none", planned(3, 3 * WANTED, 8, 13, 0) && planned(3, 3 * WANTED, 0, 13, 0));
+}
+
+/* Whether the check gives this number and this answer, and changes no record. */
+static int checked(size_t n, size_t length, const uint16_t *given, size_t count, int number, int accepted)
+{
+    const max6954_plan_check_answer a = max6954_plan_check(chain, n, wanted, length, given, count);
+    return a.number == number && a.accepted == accepted && memcmp(records, chain, sizeof chain) == 0;
+}
+
+/* Whether the list of the three drivers is accepted with this word in it. */
+static int accepted_with(size_t at, uint16_t word)
+{
+    uint16_t given[9];
+    memcpy(given, three, sizeof given);
+    given[at] = word;
+    return checked(3, 3 * WANTED, given, 9, 0, 1);
+}
+
+static void checks(void)
+{
+    static const uint16_t longer[12] = { 0x4F03, 0x6777, 0, 0x297F, 0x046D, 0x0400, 0x497F, 0x4202, 0x6400, 0, 0x2201, 0 };
+    fresh_three();
+    holds("check: the planner's list is accepted", checked(3, 3 * WANTED, three, 9, 0, 1));
+    holds("check: and so is a longer one, in another order", checked(3, 3 * WANTED, longer, 12, 0, 1));
+    holds("check: a configuration write may keep the planes, or clear them", accepted_with(6, 0x0400) && !accepted_with(6, 0x0420) && accepted_with(8, 0x0420));
+    holds("check: no T, P or X", !accepted_with(1, 0x047D) && !accepted_with(1, 0x04ED) && !accepted_with(1, 0x046F));
+    holds("check: no other I, E, B or S",
+          !accepted_with(1, 0x042D) && !accepted_with(1, 0x0465) && !accepted_with(1, 0x0469) && !accepted_with(1, 0x046C));
+    holds("check: no other register, no read, no data in a no-op", !accepted_with(8, 0x0307) && !accepted_with(8, 0xA400) && !accepted_with(8, 0x0001));
+    holds("check: no other planes", !accepted_with(0, 0x697E) && !accepted_with(3, 0x4F02) && !accepted_with(7, 0));
+    holds("check: no part of an access", checked(3, 3 * WANTED, three, 8, 0, 0) && checked(3, 3 * WANTED, longer, 10, 0, 0));
+    holds("check: not the empty list, where something is to do", checked(3, 3 * WANTED, NULL, 0, 0, 0));
+    holds("check, 1: no record, or seventeen", checked(0, 0, three, 9, 1, 0) && checked(17, 3 * WANTED, three, 9, 1, 0));
+    holds("check, 12: a wanted byte too few or too many", checked(3, 3 * WANTED - 1, three, 9, 12, 0) && checked(3, 3 * WANTED + 1, three, 9, 12, 0));
+    chain[2].answer_mark = 2;
+    remember();
+    holds("check, 7: an unsound record, before 12", checked(3, 3 * WANTED, three, 9, 7, 0) && checked(3, 3 * WANTED - 1, three, 9, 7, 0));
+    fresh();
+    fresh_plan(3);
+    holds("check: the empty list, where nothing is to do, but no part of an access",
+          checked(3, 3 * WANTED, NULL, 0, 0, 1) && checked(3, 3 * WANTED, three + 2, 1, 0, 0));
+}
+
+/* Whether the bytes of an access are refused with this number, and none is written. */
+static int no_bytes(int number, size_t n, size_t count, size_t access, size_t space)
+{
+    uint8_t bytes[2 * 17];
+    memset(bytes, 0xEE, sizeof bytes);
+    int all = max6954_plan_bytes(n, three, count, access, bytes, space) == number;
+    for (size_t i = 0; i < sizeof bytes; i++)
+        all = all && bytes[i] == 0xEE;
+    return all;
+}
+
+static void bytes_of_plans(void)
+{
+    uint8_t bytes[7];
+    memset(bytes, 0xEE, sizeof bytes);
+    int first = max6954_plan_bytes(3, three, 9, 0, bytes, 6) == 0 && memcmp(bytes, "\x24\x00\x04\x6D\x69\x7F\xEE", 7) == 0;
+    holds("bytes: driver 3's word first, high byte first; bytes after them stay",
+          first && max6954_plan_bytes(3, three, 9, 2, bytes, 7) == 0 && memcmp(bytes, "\x00\x00\x42\x02\x00\x00\xEE", 7) == 0);
+    holds("bytes, 1: no driver, or seventeen, before 4 and 5", no_bytes(1, 0, 9, 9, 0) && no_bytes(1, 17, 9, 9, 0));
+    holds("bytes, 4: an access after the last, before 5", no_bytes(4, 3, 9, 3, 0) && no_bytes(4, 3, 8, 2, 34) && no_bytes(4, 3, 0, 0, 34));
+    holds("bytes, 4: an access whose place is above any size", no_bytes(4, 4, 9, SIZE_MAX, 34) && no_bytes(4, 4, 9, SIZE_MAX / 4 + 1, 34));
+    holds("bytes, 5: room for a byte less", no_bytes(5, 3, 9, 0, 5) && no_bytes(5, 3, 9, 0, 0));
+}
+
 int main(void)
 {
     examples();
@@ -220,6 +391,10 @@ int main(void)
     words();
     questions();
     answer_marks();
+    plans();
+    refused_plans();
+    checks();
+    bytes_of_plans();
     printf("%d passed, %d failed\n", passed, failed);
     return failed != 0;
 }

@@ -25,6 +25,30 @@
 //! assert_eq!(access(&mut chain, 32, &[0; 3], &mut answer), Err(Refusal::SentTooShort));
 //! # Ok::<(), Refusal>(())
 //! ```
+//!
+//! The fewest accesses that lead to another picture are planned, and then sent:
+//!
+//! ```
+//! use ratchetelm::{access, plan, plan_bytes, Device, Refusal, MOST_ACCESSES, WANTED_SIZE};
+//!
+//! let mut chain = [Device::power_up(); 2];
+//! let mut wanted = [0; 2 * WANTED_SIZE];
+//! wanted[3] = 5; // driver 1, digit 3 of P0; all else is 0
+//!
+//! let mut list = [0; 2 * MOST_ACCESSES];
+//! let accesses = plan(&chain, &wanted, &mut list)?;
+//! // Both are cleared. Then driver 1's digit is written, and driver 2 waits.
+//! assert_eq!(list[..2 * accesses], [0x0420, 0x0420, 0x2305, 0x0000]);
+//!
+//! let (mut sent, mut answer) = ([0; 4], [0; 4]);
+//! for k in 0..accesses {
+//!     plan_bytes(2, &list, k, &mut sent)?;
+//!     access(&mut chain, 32, &sent, &mut answer)?;
+//! }
+//! assert_eq!(chain[0].registers.planes.p0[..4], [0, 0, 0, 5]);
+//! assert_eq!(chain[1].registers.planes.p0, [0; 16]);
+//! # Ok::<(), Refusal>(())
+//! ```
 
 mod records;
 mod refusal;
@@ -32,6 +56,12 @@ mod sys;
 
 pub use records::{Config, Controls, Device, Group, Keys, Planes, Registers};
 pub use refusal::Refusal;
+
+/// The wanted bytes of one driver in a plan: P0, then P1.
+pub const WANTED_SIZE: usize = 32;
+
+/// The most accesses that a plan has.
+pub const MOST_ACCESSES: usize = 32;
 
 /// A pin of a cathode, O0 to O18; as a number it is the one that C has.
 #[derive(Clone, Copy, Debug, PartialEq, Eq)]
@@ -206,4 +236,60 @@ pub fn answer_mark(chain: &[Device], driver: usize) -> Result<bool, Refusal> {
     let answer = unsafe { sys::max6954_answer_mark(chain.as_ptr(), chain.len(), driver) };
     Refusal::of(answer.number)?;
     Ok(answer.mark == 1)
+}
+
+/// The fewest accesses that lead from the planes of a chain to wanted ones, [`WANTED_SIZE`] bytes a driver, driver 1's first.
+/// So many accesses are put into the list, each a word to each driver, driver 1's first; words after them stay. A room of
+/// [`MOST_ACCESSES`] words for each driver always does.
+pub fn plan(chain: &[Device], wanted: &[u8], list: &mut [u16]) -> Result<usize, Refusal> {
+    let (n, wanted_length, room) = (chain.len(), wanted.len(), list.len());
+    // SAFETY: each pointer has the length of its slice, and the one that is written is borrowed exclusively.
+    let answer = unsafe {
+        sys::max6954_plan(
+            chain.as_ptr(),
+            n,
+            wanted.as_ptr(),
+            wanted_length,
+            list.as_mut_ptr(),
+            room,
+        )
+    };
+    Refusal::of(answer.number)?;
+    Ok(answer.accesses)
+}
+
+/// Whether a list, of any length, leads to the wanted planes: it is whole accesses, ends in them, and has no other words than
+/// no-ops, writes to digits, and configuration writes that keep what each driver has stored.
+pub fn plan_check(chain: &[Device], wanted: &[u8], list: &[u16]) -> Result<bool, Refusal> {
+    let (n, wanted_length, list_length) = (chain.len(), wanted.len(), list.len());
+    // SAFETY: each pointer has the length of its slice, and nothing is written.
+    let answer = unsafe {
+        sys::max6954_plan_check(
+            chain.as_ptr(),
+            n,
+            wanted.as_ptr(),
+            wanted_length,
+            list.as_ptr(),
+            list_length,
+        )
+    };
+    Refusal::of(answer.number)?;
+    Ok(answer.accepted == 1)
+}
+
+/// The 2n bytes to send for an access of a list to n drivers, counted from 0, with 16n clocks; bytes after them stay. Refused
+/// with [`Refusal::SentTooShort`] where the list lacks that access, with [`Refusal::AnswerTooShort`] where the room is under 2n.
+pub fn plan_bytes(n: usize, list: &[u16], access: usize, bytes: &mut [u8]) -> Result<(), Refusal> {
+    let (list_length, room) = (list.len(), bytes.len());
+    // SAFETY: each pointer has the length of its slice, and the one that is written is borrowed exclusively.
+    Refusal::of(unsafe {
+        sys::max6954_plan_bytes(
+            n,
+            list.as_ptr(),
+            list_length,
+            access,
+            bytes.as_mut_ptr(),
+            room,
+        )
+    })
 }

@@ -11,10 +11,12 @@ pub enum Refusal {
     AnswerTooShort = 5,
     OutOfRange = 6,
     Unsound = 7,
+    WantedLength = 12,
+    ListTooShort = 13,
 }
 
 impl Refusal {
-    const BY_NUMBER: [Refusal; 7] = [
+    const ALL: [Refusal; 9] = [
         Refusal::ChainLength,
         Refusal::DriverNumber,
         Refusal::TooManyClocks,
@@ -22,19 +24,22 @@ impl Refusal {
         Refusal::AnswerTooShort,
         Refusal::OutOfRange,
         Refusal::Unsound,
+        Refusal::WantedLength,
+        Refusal::ListTooShort,
     ];
 
-    /// Its number, 1 to 7.
+    /// Its number, as C has it.
     pub fn number(self) -> u8 {
         self as u8
     }
 
     // What a call's number says: 0 is served.
     pub(crate) fn of(number: u8) -> Result<(), Refusal> {
-        match usize::from(number).checked_sub(1) {
-            None => Ok(()),
-            Some(k) => Err(Refusal::BY_NUMBER[k]),
+        if number == 0 {
+            return Ok(());
         }
+        let named = Refusal::ALL.into_iter().find(|r| r.number() == number);
+        Err(named.expect("a number that a call may give"))
     }
 }
 
@@ -51,6 +56,8 @@ impl fmt::Display for Refusal {
                  below its first, a lent plane not 16 long, or a glyph table not 128 long"
             }
             Refusal::Unsound => "some record of the chain isn't sound",
+            Refusal::WantedLength => "wanted planes not 32 bytes a driver",
+            Refusal::ListTooShort => "room for the list too small for the shortest",
         })
     }
 }

@@ -35,6 +35,18 @@ pub struct MarkAnswer {
     pub mark: u8,
 }
 
+#[repr(C)]
+pub struct PlanAnswer {
+    pub number: u8,
+    pub accesses: usize,
+}
+
+#[repr(C)]
+pub struct PlanCheckAnswer {
+    pub number: u8,
+    pub accepted: u8,
+}
+
 extern "C" {
     pub fn max6954_power_up() -> Device;
 
@@ -97,4 +109,31 @@ extern "C" {
         first: usize,
         last: usize,
     ) -> ShownAnswer;
+
+    pub fn max6954_plan(
+        chain: *const Device,
+        n: usize,
+        wanted: *const u8,
+        wanted_length: usize,
+        list: *mut u16,
+        room: usize,
+    ) -> PlanAnswer;
+
+    pub fn max6954_plan_check(
+        chain: *const Device,
+        n: usize,
+        wanted: *const u8,
+        wanted_length: usize,
+        list: *const u16,
+        list_length: usize,
+    ) -> PlanCheckAnswer;
+
+    pub fn max6954_plan_bytes(
+        n: usize,
+        list: *const u16,
+        list_length: usize,
+        access: usize,
+        bytes: *mut u8,
+        room: usize,
+    ) -> u8;
 }

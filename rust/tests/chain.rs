@@ -1,7 +1,8 @@
 //! The library through the safe calls: each call served and refused, and every field where its name is.
 use ratchetelm::{
-    access, add_clocks, answer_mark, brightness, interrupt, plane, scan, segments, set_pins, shown,
-    Config, Controls, Device, Group, Pin, Plane, Refusal,
+    access, add_clocks, answer_mark, brightness, interrupt, plan, plan_bytes, plan_check, plane,
+    scan, segments, set_pins, shown, Config, Controls, Device, Group, Pin, Plane, Refusal,
+    MOST_ACCESSES, WANTED_SIZE,
 };
 use std::mem::size_of;
 
@@ -207,6 +208,116 @@ fn the_returned_part_is_uncopied() {
     assert_eq!(part.as_ptr_range(), p1.as_ptr_range());
 }
 
+/// The planes of each driver, as a plan is asked for them.
+fn pictures(chain: &[Device]) -> Vec<u8> {
+    let planes = chain.iter().map(|d| d.registers.planes);
+    planes.flat_map(|p| [p.p0, p.p1].concat()).collect()
+}
+
+/// Three drivers that need one access, none and three: a write to both planes, nothing, and a clear with a digit's two bytes.
+fn to_redraw() -> ([Device; 3], Vec<u8>) {
+    let mut chain = [Device::power_up(); 3];
+    chain[2].registers.config.s = 1;
+    let mut wanted = pictures(&chain);
+    (wanted[9], wanted[25]) = (0x7F, 0x7F);
+    wanted[64..].fill(0);
+    (wanted[69], wanted[85]) = (1, 2);
+    (chain, wanted)
+}
+
+const REDRAWN: [u16; 9] = [0x697F, 0, 0x0421, 0, 0, 0x2501, 0, 0, 0x4502];
+
+#[test]
+fn a_plan_is_made_accepted_and_sent() {
+    let (mut chain, wanted) = to_redraw();
+    let mut list = [0xEEEE; 3 * MOST_ACCESSES];
+    assert_eq!(plan(&chain, &wanted, &mut list), Ok(3));
+    assert_eq!(list[..9], REDRAWN);
+    assert_eq!(list[9..], [0xEEEE; 3 * MOST_ACCESSES - 9]);
+    assert_eq!(plan_check(&chain, &wanted, &list[..9]), Ok(true));
+    for k in 0..3 {
+        let (mut bytes, mut answer) = ([0xEE; 7], [0; 6]);
+        assert_eq!(plan_bytes(3, &list, k, &mut bytes), Ok(()));
+        assert_eq!(bytes[6], 0xEE, "bytes after them stay");
+        assert_eq!(access(&mut chain, 48, &bytes[..6], &mut answer), Ok(()));
+    }
+    assert_eq!(pictures(&chain), wanted);
+    assert_eq!(plan(&chain, &wanted, &mut []), Ok(0));
+    assert_eq!(plan_check(&chain, &wanted, &[]), Ok(true));
+}
+
+#[test]
+fn the_check_accepts_no_wrong_list() {
+    let (chain, wanted) = to_redraw();
+    let with = |at: usize, word| {
+        let mut list = REDRAWN.to_vec();
+        list[at] = word;
+        list
+    };
+    let lists = [
+        with(2, 0x0431),       // T set
+        with(2, 0x0420),       // S of another value
+        with(2, 0x8421),       // a read
+        with(8, 0x4503),       // another byte
+        REDRAWN[..8].to_vec(), // a part of an access
+        vec![],
+    ];
+    for list in lists {
+        assert_eq!(plan_check(&chain, &wanted, &list), Ok(false), "{list:04X?}");
+    }
+}
+
+/// A call's number.
+fn number<T>(result: Result<T, Refusal>) -> u8 {
+    result.map_or_else(Refusal::number, |_| 0)
+}
+
+#[test]
+fn a_plan_is_refused_by_its_number() {
+    let (chain, wanted) = to_redraw();
+    let (mut unsound, long) = (chain, [Device::power_up(); 17]);
+    unsound[1].registers.blink = 4_000_000;
+    // Records, wanted bytes, room; the number of the plan, and of the check.
+    let rows = [
+        (&chain[..0], 95, 8, 1, 1),
+        (&long[..], 95, 8, 1, 1),
+        (&unsound[..], 95, 8, 7, 7),
+        (&chain[..], 95, 8, 12, 12),
+        (&chain[..], 96, 8, 13, 0),
+        (&chain[..], 96, 9, 0, 0),
+    ];
+    for (records, length, room, planned, checked) in rows {
+        let (wanted, mut list) = (&wanted[..length], [0xEEEE; 9]);
+        assert_eq!(number(plan(records, wanted, &mut list[..room])), planned);
+        assert_eq!(
+            list == [0xEEEE; 9],
+            planned != 0,
+            "a refused plan changes no word"
+        );
+        assert_eq!(number(plan_check(records, wanted, &REDRAWN)), checked);
+    }
+}
+
+#[test]
+fn bytes_to_send_are_refused_by_their_number() {
+    let mut bytes = [0xEE; 6];
+    // Drivers, access, room; the number.
+    let rows = [
+        (0, 3, 5, 1),
+        (17, 3, 5, 1),
+        (3, 3, 5, 4),
+        (3, usize::MAX, 6, 4),
+        (2, 4, 6, 4),
+        (3, 2, 5, 5),
+    ];
+    for (n, access, room, expected) in rows {
+        let given = plan_bytes(n, &REDRAWN, access, &mut bytes[..room]);
+        assert_eq!((number(given), bytes), (expected, [0xEE; 6]));
+    }
+    assert_eq!(plan_bytes(3, &REDRAWN, 1, &mut bytes), Ok(()));
+    assert_eq!(bytes, [0x25, 0x01, 0, 0, 0, 0]);
+}
+
 /// The number of each call. Pin levels, last digit, cathode and digit are so far above the highest that is served.
 fn numbers(
     chain: &mut [Device],
@@ -216,19 +327,18 @@ fn numbers(
     above: usize,
     font: &[u16],
 ) -> [u8; 10] {
-    let number = |result: Result<(), Refusal>| result.map_or_else(Refusal::number, |()| 0);
     let planes = [0; 16];
     [
         number(access(chain, clocks, sent, &mut [0; 2])),
         number(scan(chain, driver, [1; 4])),
         number(set_pins(chain, driver, 31 + above as u32)),
         number(add_clocks(chain, driver, 1)),
-        number(plane(chain, driver, &planes, &planes, 0, 15 + above).map(drop)),
-        number(segments(chain, driver, 7 + above, font, font).map(drop)),
-        number(brightness(chain, driver, 15 + above).map(drop)),
-        number(shown(chain, driver).map(drop)),
-        number(interrupt(chain, driver).map(drop)),
-        number(answer_mark(chain, driver).map(drop)),
+        number(plane(chain, driver, &planes, &planes, 0, 15 + above)),
+        number(segments(chain, driver, 7 + above, font, font)),
+        number(brightness(chain, driver, 15 + above)),
+        number(shown(chain, driver)),
+        number(interrupt(chain, driver)),
+        number(answer_mark(chain, driver)),
     ]
 }
 
@@ -285,11 +395,13 @@ fn defined(name: &str) -> Option<usize> {
 }
 
 #[test]
-fn the_header_has_this_version_and_this_size() {
+fn the_header_has_this_version_and_these_sizes() {
     let version = env!("CARGO_PKG_VERSION").split('.');
     let version = version.fold(0, |sum, part| 100 * sum + part.parse::<usize>().unwrap());
     assert_eq!(defined("RATCHETELM_VERSION"), Some(version));
     assert_eq!(defined("MAX6954_DEVICE_SIZE"), Some(size_of::<Device>()));
+    assert_eq!(defined("MAX6954_WANTED_SIZE"), Some(WANTED_SIZE));
+    assert_eq!(defined("MAX6954_MOST_ACCESSES"), Some(MOST_ACCESSES));
 }
 
 #[test]
@@ -297,21 +409,23 @@ fn refusals_have_the_numbers_and_words_of_the_header() {
     let header: Vec<&str> = HEADER.split_whitespace().collect();
     let header = header.join(" ");
     let refusals = [
-        Refusal::ChainLength,
-        Refusal::DriverNumber,
-        Refusal::TooManyClocks,
-        Refusal::SentTooShort,
-        Refusal::AnswerTooShort,
-        Refusal::OutOfRange,
-        Refusal::Unsound,
+        (1, Refusal::ChainLength),
+        (2, Refusal::DriverNumber),
+        (3, Refusal::TooManyClocks),
+        (4, Refusal::SentTooShort),
+        (5, Refusal::AnswerTooShort),
+        (6, Refusal::OutOfRange),
+        (7, Refusal::Unsound),
+        (12, Refusal::WantedLength),
+        (13, Refusal::ListTooShort),
     ];
     // Two strings side by side are one.
     let given = header.replace("\" \"", "");
-    for (k, refusal) in refusals.into_iter().enumerate() {
-        assert_eq!(usize::from(refusal.number()), k + 1);
-        let words = format!(" {} {refusal}", k + 1);
+    for (number, refusal) in refusals {
+        assert_eq!(refusal.number(), number);
+        let words = format!(" {number} {refusal}");
         assert!(header.contains(&words), "{words}");
-        let words = format!(" case {}: return \"{refusal}\";", k + 1);
+        let words = format!(" case {number}: return \"{refusal}\";");
         assert!(given.contains(&words), "{words}");
     }
 }

@@ -88,10 +88,10 @@ pub fn phase(count: u32, fast: bool) -> Plane
     if fast {
         fast_phase(advanced(count, 0))
     } else {
-        if count < 2000000 {
-            Plane::P0
-        } else {
+        if 2000000 <= count {
             Plane::P1
+        } else {
+            Plane::P0
         }
     }
 }

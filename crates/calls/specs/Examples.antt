@@ -183,6 +183,7 @@ markRows =
 abbrev pub clearing : ℕ → List ℕ → Call
 clearing n room = askChain (plan (replicate (32 * n) 0) room)
 
+-- the planner's numbers and answers
 abbrev pub planRows : List (List ℕ × List ℕ)
 planRows =
     -- 12: wanted contents not 32 bytes a driver

@@ -82,13 +82,14 @@ unfoldable pub AllFull : ℕ → List Call → Type 0
 AllFull n [] = Unit {0}
 AllFull n (q ∷ qs) = Full n q × AllFull n qs
 
--- of the numbers of a list of calls, those of accesses, steps and questions: what the chain is asked has no lone driver's number
+-- the number of an access, a step or a question: what the chain is asked has no lone driver's number
 abbrev pub ownNumber : Call → ℕ → List ℕ
 ownNumber (access c sent room) k = k ∷ []
 ownNumber (give j s) k = k ∷ []
 ownNumber (ask j q) k = k ∷ []
 ownNumber (askChain q) k = []
 
+-- of a whole list
 unfoldable pub ownNumbers : List Call → List ℕ → List ℕ
 ownNumbers [] ks = []
 ownNumbers (q ∷ qs) [] = []

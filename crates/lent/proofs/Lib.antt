@@ -1,5 +1,7 @@
 pub mod Logic
 pub mod Walk
+pub mod Locals
+pub mod Elements
 pub mod Places
 pub mod Parts
 pub mod Records

@@ -26,6 +26,7 @@ use Rattle.device.proofs.Device.Laws as D′
 use Rattle.pass.proofs.Widths as W
 use Rattle.pass.proofs.Widths.Laws as W′
 use Rattle.lent.proofs.Walk.{Data, num, rec}
+use Rattle.lent.proofs.Elements.{Sized}
 use Rattle.lent.proofs.Places.{same, vals, is-set}
 
 abbrev pub size : Data
@@ -42,6 +43,12 @@ word = num w32
 
 abbrev pub device : Data
 device = rec D.the-type D′.the-laws D′.the-plain D′.the-copy
+
+pub half-sized : Sized half 2
+half-sized = record { one = refl; size = refl; small = tt }
+
+pub device-sized : Sized device 80
+device-sized = record { one = refl; size = refl; small = tt }
 
 abbrev pub widths : Data
 widths = rec W.the-type W′.the-laws W′.the-plain W′.the-copy

@@ -1,13 +1,15 @@
 -- One driver's words by the planes alone, word by word, and digits compared one by one.
 -- Assumes nothing.
 use Prim.Native.Nat.{ℕ, zero, suc, _+_, _*_, _/_, _<_, _≤_}
-use native.Mathlib.Nat.{div-add-mod'}
+use native.Mathlib.Nat.{div-add-mod', zero-add}
 use native.Mathlib.Omega.{arith}
 use mathlib.Core.Bool.{Bool, true, false, _&&_}
 use mathlib.Core.List.{List, _∷_}
-use mathlib.Core.Path.{_≡_, refl, sym, ap₂, _∙_}
+use mathlib.Core.Path.{_≡_, refl, ap₂, _∙_}
+use lib.Dec.{eqb}
 use lib.ListN.{length, getD, drop, drop-of-length-le}
 use lib.Seq.{drop-cons}
+use borrow.Author.Tests.{ne-eqb}
 use Rattle.ground.proofs.Lists.{length-tabulate, getD-tabulate}
 use Rattle.digits.specs.declared.Planes.{Planes}
 use Rattle.controls.specs.declared.Config.{Config}
@@ -16,10 +18,11 @@ use Rattle.device.specs.declared.Device.{Device}
 use Rattle.plans.specs.Words.{allowedBy, allowed, every}
 use Rattle.plans.specs.Lists.{wordsAt}
 use Rattle.plans.specs.Check.{below, same, acceptedWords}
+use Rattle.plans.specs.Least.{total, needBy, needAt, plain}
 use Rattle.plans.specs.Act.{acted, actOf, drawn}
 use Rattle.plans.proofs.Act.{after-planes}
 use Rattle.plans.proofs.Lists.{place-lt}
-use Rattle.plans.proofs.Check.{below-at}
+use Rattle.planner.specs.OneDriver.{fromPlanes}
 
 -- tests that are equal below n
 pub below-ext : (n : ℕ) (f g : ℕ → Bool) → ((i : ℕ) → i < n → f i ≡ g i) → below n f ≡ below n g
@@ -27,17 +30,31 @@ unfolding below
 below-ext zero f g h = refl
 below-ext (suc n) f g h = ap₂ _&&_ (below-ext n f g (λ i l. h i (omega arith))) (h n (omega arith))
 
--- a test that fails somewhere
-pub below-not : (n : ℕ) (f : ℕ → Bool) (k : ℕ) → k < n → f k ≡ false → below n f ≡ false
-below-not n f k h e = go (below n f) refl
-  where
-    go : (b : Bool) → below n f ≡ b → b ≡ false
-    go true t = sym (below-at n f t k h) ∙ e
-    go false t = refl
+-- planes are the same where no digit needs a word
+both-zero : (a b : ℕ) → (eqb a 0 && eqb b 0) ≡ eqb (a + b) 0
+both-zero zero b = rw zero-add
+both-zero (suc a) b = rw (ne-eqb (suc a) 0 (λ e. omega (arith, e)), ne-eqb (suc a + b) 0 (λ e. omega (arith, e)))
 
--- words that a driver with configuration c and planes p accepts, which is to hold q
-abbrev pub fromPlanes : Config → Planes → Planes → List ℕ → Bool
-fromPlanes c q p ws = every (allowedBy c) ws && same (drawn p ws) q
+below-total : (n : ℕ) (f : ℕ → Bool) (g : ℕ → ℕ) → ((k : ℕ) → f k ≡ eqb (g k) 0) → below n f ≡ eqb (total n g) 0
+unfolding below total
+below-total zero f g h = refl
+below-total (suc n) f g h = ap₂ _&&_ (below-total n f g h) (h n) ∙ both-zero (total n g) (g n)
+
+needs-none : (r s v : Bool) → (r && s) ≡ eqb (needBy r s v) 0
+needs-none true true true = refl
+needs-none true true false = refl
+needs-none true false true = refl
+needs-none true false false = refl
+needs-none false true true = refl
+needs-none false true false = refl
+needs-none false false true = refl
+needs-none false false false = refl
+
+pub same-plain : (p q : Planes) → same p q ≡ eqb (plain p q) 0
+unfolding same
+same-plain p q =
+    below-total 16 _ (needAt p q)
+    (λ k. needs-none (eqb (getD (p .p0) k 0) (getD (q .p0) k 0)) (eqb (getD (p .p1) k 0) (getD (q .p1) k 0)) (eqb (getD (q .p0) k 0) (getD (q .p1) k 0)))
 
 pub words-planes : (d : Device) (q : Planes) (ws : List ℕ) → acceptedWords d q ws ≡ fromPlanes (d .registers .config) q (d .registers .planes) ws
 unfolding acceptedWords

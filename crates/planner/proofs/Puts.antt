@@ -1,18 +1,16 @@
--- Words put one after the other into a list of accesses, and no-ops after them, are a driver's column.
+-- Words put one after the other into a list of accesses.
 -- Assumes nothing.
-use Prim.Native.Nat.{ℕ, zero, suc, _+_, _*_, _-_, _<_, _≤_}
-use native.Mathlib.Nat.{suc-mul, add-mul, mul-le-mul-right, sub-zero, suc-sub-suc}
+use Prim.Native.Nat.{ℕ, zero, suc, _+_, _*_, _<_, _≤_}
+use native.Mathlib.Nat.{suc-mul, add-mul, mul-le-mul-right}
 use native.Mathlib.Omega.{arith}
 use native.Mathlib.Decide.{ℕ-discrete}
 use mathlib.Core.List.{List, [], _∷_, _++_}
 use mathlib.Core.Path.{_≡_, refl, _∙_}
-use lib.ListN.{length, getD, set, drop, replicate, length-set}
-use lib.Seq.{getD-drop}
+use lib.ListN.{length, getD, set, drop, length-set}
+use lib.Seq.{getD-set-same, getD-set-other, drop-set-lt}
 use Rattle.digits.specs.declared.Planes.{Planes}
 use Rattle.plans.specs.Least.{total, needAt, plain}
-use Rattle.plans.specs.Plan.{steps}
-use Rattle.plans.proofs.Planner.{length-steps}
-use Rattle.planner.specs.Columns.{column, put}
+use Rattle.planner.specs.OneDriver.{put}
 
 pub length-put : (ws l : List ℕ) (n at : ℕ) → length (put l n at ws) ≡ length l
 unfolding put
@@ -26,27 +24,29 @@ put-append (w ∷ ws) vs l n at =
     let e : at + suc (length ws) * n ≡ at + n + length ws * n = omega (arith, suc-mul (length ws) n) in
     rw e (put-append ws vs (set l at w) n (at + n))
 
--- a column's first word apart
-pub column-front : (l : List ℕ) (n i : ℕ) (ws : List ℕ) (k : ℕ) → column l n i ws (suc k) ≡ column (set l i (getD ws 0 0)) n (i + n) (drop 1 ws) k
-unfolding column
-column-front l n i ws zero = let e : 0 * n + i ≡ i = omega arith in rw e
-column-front l n i ws (suc k) =
-    let e : suc k * n + i ≡ k * n + (i + n) = omega (arith, suc-mul k n) in
-    let f : 1 + k ≡ suc k = omega arith in
-    rw (e, column-front l n i ws k, getD-drop, f)
+-- a place that isn't among those of the words, one that is, and those after them
+pub put-other : (ws l : List ℕ) (n at x : ℕ) → ((j : ℕ) → x ≡ j * n + at → ⊥) → getD (put l n at ws) x 0 ≡ getD l x 0
+unfolding put
+put-other [] l n at x d = refl
+put-other (w ∷ ws) l n at x d =
+    put-other ws (set l at w) n (at + n) x (λ j e. d (suc j) (omega (arith, e, suc-mul j n)))
+    ∙ getD-set-other l at x w 0 (λ e. d 0 (omega (arith, e)))
 
-put-column : (ws l : List ℕ) (n i k : ℕ) → length ws ≤ k → put l n i (ws ++ replicate (k - length ws) 0) ≡ column l n i ws k
-unfolding put column
-put-column [] l n i zero h = refl
-put-column [] l n i (suc k) h = rw (column-front, sub-zero) (rw sub-zero at (put-column [] (set l i 0) n (i + n) k (omega arith)))
-put-column (w ∷ ws) l n i zero h = absurd (omega arith)
-put-column (w ∷ ws) l n i (suc k) h = rw (column-front, suc-sub-suc) (put-column ws (set l i w) n (i + n) k (omega arith))
+pub put-own : (ws l : List ℕ) (n at j : ℕ) → 0 < n → j < length ws → j * n + at < length l → getD (put l n at ws) (j * n + at) 0 ≡ getD ws j 0
+unfolding put
+put-own [] l n at j s h z = absurd (omega arith)
+put-own (w ∷ ws) l n at zero s h z =
+    let e : 0 * n + at ≡ at = omega arith in
+    rw e (put-other ws (set l at w) n (at + n) at (λ j f. omega (arith, f)) ∙ getD-set-same l at w 0 (omega arith))
+put-own (w ∷ ws) l n at (suc j) s h z =
+    let e : suc j * n + at ≡ j * n + (at + n) = omega (arith, suc-mul j n) in
+    rw e (put-own ws (set l at w) n (at + n) j s (omega arith) (rw (length-set, ← e) z))
 
--- the words of all digits, and no-ops after them
-pub put-steps : (p q : Planes) (l : List ℕ) (n i k : ℕ) → plain p q ≤ k
-    → put (put l n i (steps p q 16)) n (i + plain p q * n) (replicate (k - plain p q) 0) ≡ column l n i (steps p q 16) k
-put-steps p q l n i k h =
-    rw (← length-steps p q 16) (rw put-append at (put-column (steps p q 16) l n i k (rw length-steps h)))
+pub put-rest : (ws l : List ℕ) (n at m : ℕ) → length ws * n + at < m + n → drop m (put l n at ws) ≡ drop m l
+unfolding put
+put-rest [] l n at m z = refl
+put-rest (w ∷ ws) l n at m z =
+    put-rest ws (set l at w) n (at + n) m (omega (arith, suc-mul (length ws) n)) ∙ drop-set-lt m l at w (omega (arith, suc-mul (length ws) n))
 
 -- the words of the digits before one, and its own, are no more than those of all
 grows : (f : ℕ → ℕ) (k m : ℕ) → k < m → total k f + f k ≤ total m f

@@ -1,20 +1,18 @@
 // The planner by value: the words that one driver needs for its wanted contents, its part of a list of accesses, and whether it accepts its part of one.
 ghost use Prim.Native.Nat.{_+_, _*_, _-_, _/_, _%_, _<_, _≤_, max};
 ghost use mathlib.Core.Bool.{_&&_};
-ghost use mathlib.Core.List.{[], _∷_};
+ghost use mathlib.Core.List.{[], _∷_, _++_};
 ghost use mathlib.Core.Path.{_≡_};
-ghost use lib.Dec.{eqb, leb, ltb};
+ghost use lib.Dec.{eqb, ltb};
 ghost use lib.ListN.{length, replicate};
 ghost use Rattle.ground.specs.Choice.{if};
 ghost use Rattle.refusals.specs.Refusals.{firstOf, wantedRefusal as wantedOf, listRefusal as listOf};
 ghost use Rattle.plans.specs.Act.{acted as actedBy, actOf};
 ghost use Rattle.plans.specs.Words.{keeps as keepsOf, allowedBy};
 ghost use Rattle.plans.specs.Lists.{wordsAt, wantedAt};
-ghost use Rattle.plans.specs.Check.{same as sameOf, acceptedWords};
 ghost use Rattle.plans.specs.Least.{wrong as wrongBy, need as needOf, plain as plainOf, least as leastOf};
 ghost use Rattle.plans.specs.Plan.{clearWord, digitWords, steps, planBy};
-ghost use Rattle.planner.specs.Columns.{put};
-ghost use Rattle.planner.specs.OneDriver.{reach, withDriver, acceptsAt};
+ghost use Rattle.planner.specs.OneDriver.{put, reach, inRoom, withPlan, withDriver, fromPlanes, acceptsAt};
 use controls::Config;
 use device::Device;
 use digits::Planes;
@@ -129,7 +127,7 @@ fn least(held: Planes, wanted: &[u8], i: usize) -> usize
     ensures { λ r. ⌜ r ≡ leastOf held (wantedAt (now (wanted .entry)) i) ⌝ }
 {
     let kept = plain(held, wanted, i);
-    let anew = 1 + plain(Planes::CLEARED, wanted, i);
+    let anew = 1 + plain(held.cleared_if(true), wanted, i);
     if kept <= anew { kept } else { anew }
 }
 
@@ -138,8 +136,7 @@ pub fn more(most: usize, i: usize, d: Device, wanted: &[u8]) -> usize
     ensures { λ r. ⌜ r ≡ max most (reach d (now (wanted .entry)) i) ⌝ }
 {
     if i < wanted.len() / 32 {
-        let registers = d.registers;
-        let k = least(registers.planes, wanted, i);
+        let k = least(d.registers.planes, wanted, i);
         if most < k {
             return k;
         }
@@ -162,30 +159,38 @@ fn clear_word(c: Config) -> u16
     1056 + c.i as u16 * 64 + c.e as u16 * 8 + c.b as u16 * 4 + c.s as u16
 }
 
-// The words that digit k needs, put into the list: the first at `at`, the second n after it. The place after them.
+// One word, put into the list where it is to be. The place after it.
+fn write_if(list: &mut [u16], n: usize, at: usize, is: bool, w: u16) -> usize
+    requires { ⌜ (n ≤ 16) × (if is (at + n) at < length (now list) + n) ⌝ }
+    ensures { λ r. ⌜ (now (list .exit) ≡ put (now (list .entry)) n at (if is (w ∷ []) [])) × (r ≡ if is (at + n) at) ⌝ }
+{
+    if is {
+        list[at] = w;
+        return at + n;
+    }
+    at
+}
+
+// The words that digit k needs, put into the list: one for both planes where P1 is wrong too and wanted like P0. The place after them.
 fn write_digit(list: &mut [u16], n: usize, at: usize, k: usize, a: u8, b: u8, x: u8, y: u8) -> usize
     requires { ⌜ (k < 16) × (n ≤ 16) × (at + needOf a b x y * n < length (now list) + n) ⌝ }
     ensures { λ r. ⌜ (now (list .exit) ≡ put (now (list .entry)) n at (digitWords k a b x y)) × (r ≡ at + needOf a b x y * n) ⌝ }
 {
-    if a == x {
-        if b == y {
-            return at;
-        }
-        list[at] = word(16384, k, y);
-        return at + n;
-    }
-    if b == y {
-        list[at] = word(8192, k, x);
-        return at + n;
-    }
-    if x == y {
-        list[at] = word(24576, k, x);
-        return at + n;
-    }
-    let next = at + n;
-    list[at] = word(8192, k, x);
-    list[next] = word(16384, k, y);
-    next + n
+    let both = (x == y) & (b != y);
+    let next = write_if(
+        list,
+        n,
+        at,
+        a != x,
+        word(8192 + 16384 * (both as u16), k, x),
+    );
+    write_if(
+        list,
+        n,
+        next,
+        (b != y) & !(both & (a != x)),
+        word(16384, k, y),
+    )
 }
 
 // The words of all digits, put into the list from a place on. The place after them.
@@ -235,27 +240,26 @@ fn write_waits(list: &mut [u16], n: usize, start: usize, count: usize)
     }
 }
 
-// The words of all digits, which are m, and no-ops after them, as many as are left.
+// The words of all digits, and no-ops after them, put into the list from a place on.
 fn write_words(
     list: &mut [u16],
     n: usize,
     start: usize,
-    left: usize,
-    m: usize,
     held: Planes,
     wanted: &[u8],
     i: usize,
+    waits: usize,
 )
-    requires { ⌜ (n ≤ 16) × (left ≤ 32) × (32 * i + 32 ≤ length (now wanted)) × (m ≡ plainOf held (wantedAt (now wanted) i)) × (m ≤ left) × (start + left * n < length (now list) + n) ⌝ }
-    ensures { λ _. ⌜ now (list .exit) ≡ put (put (now (list .entry)) n start (steps held (wantedAt (now (wanted .entry)) i) 16)) n (start + plainOf held (wantedAt (now (wanted .entry)) i) * n) (replicate (left - plainOf held (wantedAt (now (wanted .entry)) i)) 0) ⌝ }
+    requires { ⌜ (n ≤ 16) × (waits ≤ 32) × (32 * i + 32 ≤ length (now wanted)) × (start + (plainOf held (wantedAt (now wanted) i) + waits) * n < length (now list) + n) ⌝ }
+    ensures { λ _. ⌜ now (list .exit) ≡ put (now (list .entry)) n start (steps held (wantedAt (now (wanted .entry)) i) 16 ++ replicate waits 0) ⌝ }
 {
     let at = write_digits(list, n, start, held, wanted, i);
-    write_waits(list, n, at, left - m);
+    write_waits(list, n, at, waits);
 }
 
 // Whether there is a place i among n drivers, with wanted contents, and room for k accesses.
 fn in_room(room: usize, wanted: usize, n: usize, k: usize, i: usize) -> bool
-    ensures { λ r. ⌜ r ≡ (ltb i n && ltb n 17 && ltb k 33 && ltb i (wanted / 32) && leb (k * n) room) ⌝ }
+    ensures { λ r. ⌜ r ≡ inRoom room wanted n k i ⌝ }
 {
     if (i < n) & (n < 17) & (k < 33) & (i < wanted / 32) {
         return k * n <= room;
@@ -263,23 +267,53 @@ fn in_room(room: usize, wanted: usize, n: usize, k: usize, i: usize) -> bool
     false
 }
 
+// The words from planes to the wanted contents, and no-ops after them: the part of place i of the list's first k accesses.
+fn write_plan(
+    list: &mut [u16],
+    n: usize,
+    k: usize,
+    held: Planes,
+    config: Config,
+    wanted: &[u8],
+    i: usize,
+)
+    requires { ⌜ (i < n) × (n ≤ 16) × (k ≤ 32) × (32 * i + 32 ≤ length (now wanted)) × (k * n ≤ length (now list)) ⌝ }
+    ensures { λ _. ⌜ now (list .exit) ≡ withPlan (now (list .entry)) n k i (planBy held config (wantedAt (now (wanted .entry)) i)) ⌝ }
+{
+    let kept = plain(held, wanted, i);
+    let cleared = 1 + plain(held.cleared_if(true), wanted, i);
+    if kept <= cleared {
+        if kept <= k {
+            write_words(list, n, i, held, wanted, i, k - kept);
+        }
+    } else if cleared <= k {
+        list[i] = clear_word(config);
+        write_words(
+            list,
+            n,
+            i + n,
+            held.cleared_if(true),
+            wanted,
+            i,
+            k - cleared,
+        );
+    }
+}
+
 // The words of the driver at place i, and no-ops after them: its part of the list's first k accesses.
 pub fn write_driver(list: &mut [u16], wanted: &[u8], n: usize, k: usize, i: usize, d: Device)
     ensures { λ _. ⌜ now (list .exit) ≡ withDriver (now (list .entry)) (now (wanted .entry)) n k i d ⌝ }
 {
     if in_room(list.len(), wanted.len(), n, k, i) {
-        let registers = d.registers;
-        let held = registers.planes;
-        let kept = plain(held, wanted, i);
-        let anew = plain(Planes::CLEARED, wanted, i);
-        if kept <= 1 + anew {
-            if kept <= k {
-                write_words(list, n, i, k, kept, held, wanted, i);
-            }
-        } else if anew < k {
-            list[i] = clear_word(registers.config);
-            write_words(list, n, i + n, k - 1, anew, Planes::CLEARED, wanted, i);
-        }
+        write_plan(
+            list,
+            n,
+            k,
+            d.registers.planes,
+            d.registers.config,
+            wanted,
+            i,
+        );
     }
 }
 
@@ -322,32 +356,19 @@ fn acted(p: Planes, w: u16) -> Planes
     }
 }
 
-// Whether planes are the wanted contents of place i.
-fn same(p: Planes, wanted: &[u8], i: usize) -> bool
-    requires { ⌜ 32 * i + 32 ≤ length (now wanted) ⌝ }
-    ensures { λ r. ⌜ r ≡ sameOf p (wantedAt (now (wanted .entry)) i) ⌝ }
-{
-    let p0 = p.p0;
-    let p1 = p.p1;
-    let from = 32 * i;
-    let mut k = 0;
-    while k < 16 {
-        if !((p0[k] == wanted[from + k]) & (p1[k] == wanted[from + 16 + k])) {
-            return false;
-        }
-        k += 1;
-    }
-    true
-}
-
-// Whether the driver at place i of n accepts its words of a list.
-fn own_accepted(i: usize, d: Device, n: usize, wanted: &[u8], list: &[u16]) -> bool
+// Whether a driver with this configuration and these planes, at place i of n, accepts its words of a list.
+fn own_accepted(
+    i: usize,
+    config: Config,
+    held: Planes,
+    n: usize,
+    wanted: &[u8],
+    list: &[u16],
+) -> bool
     requires { ⌜ (i < n) × (n ≤ 16) × (32 * i + 32 ≤ length (now wanted)) ⌝ }
-    ensures { λ r. ⌜ r ≡ acceptedWords d (wantedAt (now (wanted .entry)) i) (wordsAt n (now (list .entry)) i) ⌝ }
+    ensures { λ r. ⌜ r ≡ fromPlanes config (wantedAt (now (wanted .entry)) i) held (wordsAt n (now (list .entry)) i) ⌝ }
 {
-    let registers = d.registers;
-    let config = registers.config;
-    let mut p = registers.planes;
+    let mut p = held;
     let k = list.len() / n;
     let mut at = i;
     let mut a = 0;
@@ -360,17 +381,15 @@ fn own_accepted(i: usize, d: Device, n: usize, wanted: &[u8], list: &[u16]) -> b
         at += n;
         a += 1;
     }
-    same(p, wanted, i)
+    plain(p, wanted, i) == 0
 }
 
 // Whether all drivers before and the one at place i accept their words of a list.
 pub fn accepts(each: bool, i: usize, d: Device, n: usize, wanted: &[u8], list: &[u16]) -> bool
     ensures { λ r. ⌜ r ≡ (each && acceptsAt d n (now (wanted .entry)) (now (list .entry)) i) ⌝ }
 {
-    if each {
-        if (i < n) & (n < 17) & (i < wanted.len() / 32) {
-            return own_accepted(i, d, n, wanted, list);
-        }
+    if each & ((i < n) & (n < 17) & (i < wanted.len() / 32)) {
+        return own_accepted(i, d.registers.config, d.registers.planes, n, wanted, list);
     }
     false
 }

@@ -15,7 +15,7 @@ use Rattle.refusals.specs.Refusals.{bytesFor}
 use Rattle.refusals.proofs.RefusalLaws.{size-served as sizes-fit}
 use Rattle.device.specs.PowerUp.{powerUp, freshChain}
 use Rattle.device.specs.declared.Device.{Device}
-use Rattle.calls.specs.Calls.{Step, Question, Call, access, give, ask}
+use Rattle.calls.specs.Calls.{Step, Question, Call, access, give, ask, askChain}
 use Rattle.calls.specs.Outcome.{number, after}
 use Rattle.calls.proofs.Accepted.{number-says}
 use Rattle.calls.proofs.Records.{length-after}
@@ -76,6 +76,7 @@ refused-line : (q : Call) (number : ℕ) (back : List ℕ) (mark : ℕ) → (num
 refused-line (access c sent room) number back mark h = rw (ne-eqb number 0 h)
 refused-line (give j s) number back mark h = rw (ne-eqb number 0 h)
 refused-line (ask j q) number back mark h = rw (ne-eqb number 0 h)
+refused-line (askChain q) number back mark h = rw (ne-eqb number 0 h)
 
 -- an answer's line
 answer-length : (bs : List ℕ) → length (answerLine bs) ≤ 3 + 2 * length bs

@@ -9,7 +9,7 @@ use Rattle.ground.specs.Choice.{if}
 use Rattle.refusals.specs.Refusals.{bytesFor}
 use Rattle.display.specs.Pins.{pinCode}
 use Rattle.display.specs.declared.Pin.the-variants.{Cathode, Lit, Unlit}
-use Rattle.calls.specs.Calls.{Call, access, give, ask}
+use Rattle.calls.specs.Calls.{Call, access, give, ask, askChain}
 
 -- the text of each element, one after another
 unfoldable pub each : (ℕ → List ℕ) → List ℕ → List ℕ
@@ -57,8 +57,10 @@ markLetter m = if (eqb m 0) 115 102
 abbrev pub showLine : List ℕ → ℕ → List ℕ
 showLine pins mark = 83 ∷ 32 ∷ each pinText pins ++ 32 ∷ markLetter mark ∷ 10 ∷ []
 
--- what a call prints, by its number, what it gave back, and the answer mark of the driver that it names: served scans, pin levels and clocks print nothing
+-- what a call prints, by its number, what it gave back, and the answer mark of the driver that it names: served scans, pin levels and clocks print
+-- nothing, and no record asks the chain anything
 abbrev pub lineFor : Call → ℕ → List ℕ → ℕ → List ℕ
 lineFor (access c sent room) number back mark = if (eqb number 0) (answerLine (take (bytesFor c) back)) (refusalLine number)
 lineFor (give j s) number back mark = if (eqb number 0) [] (refusalLine number)
 lineFor (ask j q) number back mark = if (eqb number 0) (showLine back mark) (refusalLine number)
+lineFor (askChain q) number back mark = if (eqb number 0) [] (refusalLine number)

@@ -8,17 +8,18 @@ use Rattle.ground.specs.Choice.{if}
 use Rattle.refusals.specs.Refusals.{chainRefusal}
 use Rattle.device.specs.PowerUp.{freshChain}
 use Rattle.device.specs.declared.Device.{Device}
-use Rattle.calls.specs.Calls.{Call, access, give, ask}
+use Rattle.calls.specs.Calls.{Call, access, give, ask, askChain}
 use Rattle.calls.specs.Served.{recordOf}
 use Rattle.calls.specs.Outcome.{number, after, reply}
 use Rattle.script.specs.Lines.{chainLine, refusalLine, lineFor}
 use Rattle.script.specs.Format.{Item, chain, call, malformed, items}
 
--- the answer mark of the driver that a call names; an access names none
+-- the answer mark of the driver that a call names; an access names none, nor does what the chain is asked
 abbrev pub namedMark : Call → List Device → ℕ
 namedMark (access c sent room) ds = 0
 namedMark (give j s) ds = recordOf ds j .«answer_mark»
 namedMark (ask j q) ds = recordOf ds j .«answer_mark»
+namedMark (askChain q) ds = 0
 
 -- what a call on a chain prints
 abbrev pub callLine : Call → List Device → List ℕ

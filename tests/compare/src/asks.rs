@@ -1,6 +1,6 @@
 //! Random calls, with long, short and damaged arguments, and a call in words.
 
-use crate::convert::hex;
+use crate::convert::{hex, hex_words};
 use crate::random::Random;
 use crate::words;
 use second_double::Call;
@@ -200,8 +200,4 @@ pub fn spelled(call: &Call) -> String {
     };
     let driver = driver_of(call).map_or(String::new(), |driver| format!("driver={driver} "));
     format!("{} {driver}{rest}", KINDS[kind_of(call)])
-}
-
-fn hex_words(words: &[u16]) -> String {
-    words.iter().map(|word| format!("{word:04X}")).collect()
 }

@@ -144,7 +144,7 @@ pub fn compare(seed: u64, times: usize) -> Part {
 /// One row under several calls; one in eight is made on an unsound copy of it.
 fn run(part: &mut Part, given: &mut Given, case: usize) {
     let mut random = Random::of(part.seed, "calls", case);
-    let n = length(&mut random);
+    let n = rows::length(&mut random);
     let mut rows = Rows::of(&rows::row(&mut random, n));
     for _ in 0..CALLS_ON_A_ROW {
         let call = asks::call(&mut random, n);
@@ -162,16 +162,6 @@ fn run(part: &mut Part, given: &mut Given, case: usize) {
         if differ {
             return;
         }
-    }
-}
-
-/// Mostly 1 to 16 records, the ends often.
-fn length(random: &mut Random) -> usize {
-    match random.below(16) {
-        0 => random.pick(&[0, 17, 18]),
-        1 => 16,
-        2..=4 => 1,
-        _ => 1 + random.below(16),
     }
 }
 

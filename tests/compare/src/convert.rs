@@ -102,6 +102,11 @@ pub fn hex(bytes: &[u8]) -> String {
     bytes.iter().map(|byte| format!("{byte:02X}")).collect()
 }
 
+/// Upper-case hex, four digits a word.
+pub fn hex_words(words: &[u16]) -> String {
+    words.iter().map(|word| format!("{word:04X}")).collect()
+}
+
 /// Every field of a record by name, in hex.
 fn fields(record: &Record) -> Vec<String> {
     let mut fields = Vec::new();

@@ -2,16 +2,25 @@
 
 pub mod calls;
 pub mod drafts;
+pub mod least;
 pub mod lists;
+pub mod plan_bytes;
+pub mod plan_checks;
+pub mod plans;
 pub mod random;
 pub mod report;
 pub mod scripts;
+pub mod sent;
 
 mod asks;
 mod by_hand;
 mod convert;
 mod damage;
 mod exported;
+mod guards;
+mod plan_damage;
+mod planner;
 mod proved;
 mod rows;
+mod wanted;
 mod words;

@@ -1,6 +1,6 @@
 //! Runs the comparison. COMPARE_SEED is another seed, COMPARE_TIMES a longer run, COMPARE_PANEL another panel program.
 
-use compare::{calls, lists, scripts};
+use compare::{calls, least, lists, plan_bytes, plan_checks, plans, scripts, sent};
 use std::env;
 use std::process::ExitCode;
 
@@ -9,7 +9,17 @@ fn main() -> ExitCode {
     let times = setting("COMPARE_TIMES", 1) as usize;
     println!("seed {seed}");
     let (mut passed, mut failed) = (0, 0);
-    for compare in [scripts::compare, calls::compare, lists::compare] {
+    let parts = [
+        scripts::compare,
+        calls::compare,
+        lists::compare,
+        plans::compare,
+        plan_checks::compare,
+        least::compare,
+        sent::compare,
+        plan_bytes::compare,
+    ];
+    for compare in parts {
         let part = compare(seed, times);
         let holding = part.checks.iter().filter(|check| check.holds()).count();
         passed += holding;

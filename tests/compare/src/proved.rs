@@ -1,11 +1,9 @@
 //! The calls of the proved library, asked as the second double's are.
 
 use crate::exported;
+use crate::guards::guarded;
 use ratchetelm::{Device, Refusal};
 use second_double::{Call, Reply};
-
-/// Bytes before and after the lent room.
-const GUARD: [u8; 5] = [0xA5; 5];
 
 /// Serves or refuses one call.
 pub fn call(chain: &mut [Device], call: &Call) -> Reply {
@@ -76,16 +74,12 @@ pub fn part(chain: &[Device], call: &Call) -> Option<(u8, Reply)> {
     ))
 }
 
-/// The room after an access; with the guards where one of them changed, so that it is too long.
+/// The room after an access.
 fn access(chain: &mut [Device], clocks: usize, sent: &[u8], room: &[u8]) -> Reply {
-    let mut lent = [&GUARD[..], room, &GUARD[..]].concat();
-    let end = GUARD.len() + room.len();
-    let result = ratchetelm::access(chain, clocks, sent, &mut lent[GUARD.len()..end]);
-    if lent.starts_with(&GUARD) && lent.ends_with(&GUARD) {
-        lent = lent[GUARD.len()..end].to_vec();
-    }
+    let lend = |lent: &mut [u8]| ratchetelm::access(chain, clocks, sent, lent);
+    let (result, back) = guarded(0xA5, room, lend);
     Reply {
-        back: lent,
+        back,
         ..done(result)
     }
 }

@@ -60,6 +60,26 @@ impl Part {
         }
     }
 
+    /// Counts whether something was met often enough, unless the part stopped early.
+    pub fn met(&mut self, check: usize, what: &str, times: usize, least: usize) {
+        if !self.enough() {
+            let seldom = format!("{what}: met {times} times, not {least}");
+            let difference = (times < least).then(|| vec![("case", seldom)]);
+            self.count(check, 0, difference);
+        }
+    }
+
+    /// Counts whether each number was given often enough; how often each was.
+    pub fn given(&mut self, check: usize, numbers: &[u8], given: &[usize], least: usize) -> String {
+        let mut counts = Vec::new();
+        for number in numbers {
+            let times = given[usize::from(*number)];
+            self.met(check, &format!("number {number}"), times, least);
+            counts.push(format!("{number} {times}"));
+        }
+        counts.join(", ")
+    }
+
     /// Whether there have been differences enough.
     pub fn enough(&self) -> bool {
         self.checks.iter().map(|check| check.differ).sum::<usize>() >= ENOUGH

@@ -11,6 +11,16 @@ const COUNTS: [u32; 8] = [
     0, 999_999, 1_000_000, 1_999_999, 2_000_000, 2_999_999, 3_000_000, 3_999_999,
 ];
 
+/// How many records a row has: mostly 1 to 16, the ends often.
+pub fn length(random: &mut Random) -> usize {
+    match random.below(16) {
+        0 => random.pick(&[0, 17, 18]),
+        1 => 16,
+        2..=4 => 1,
+        _ => 1 + random.below(16),
+    }
+}
+
 /// A row of sound records; one in three at power-up.
 pub fn row(random: &mut Random, n: usize) -> Vec<Record> {
     if random.one_in(3) {

@@ -2,7 +2,7 @@
 
 use crate::calls::{argument_number, named_driver, serve, Call};
 use crate::record::Record;
-use crate::registers::take;
+use crate::registers::obey;
 
 /// Driver i of a chain of n, alone with its record.
 pub struct Lone {
@@ -43,8 +43,8 @@ impl Lone {
         }
         let answered = self.record.shift;
         let first = 2 * (self.n - self.i);
-        self.record.shift = u16::from_be_bytes([sent[first], sent[first + 1]]);
-        take(&mut self.record);
+        let word = u16::from_be_bytes([sent[first], sent[first + 1]]);
+        obey(&mut self.record, word);
         Some(answered.to_be_bytes().to_vec())
     }
 }

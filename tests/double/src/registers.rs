@@ -6,6 +6,12 @@ use crate::keys::read_debounced;
 use crate::ports;
 use crate::record::Record;
 
+/// The driver is sent a whole word and obeys it.
+pub fn obey(record: &mut Record, word: u16) {
+    record.shift = word;
+    take(record);
+}
+
 /// The driver obeys its shift word: D15 is 1 for a read, D14 to D8 the address.
 /// A read of any address sets the answer mark, a write clears it.
 pub fn take(record: &mut Record) {

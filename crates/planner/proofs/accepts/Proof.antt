@@ -1,21 +1,23 @@
 -- `planner::accepts` meets its contract. Assumes nothing.
 use Prim.Native.Nat.{_/_}
 use native.Mathlib.Omega.{arith}
-use mathlib.Core.Bool.{_&&_}
+use mathlib.Core.Bool.{_&&_, and-assoc}
 use lib.Dec.{ltb}
 use lib.ListN.{length}
 use borrow.Author.Tests.{ltb-true}
 use Rattle.ground.proofs.Truth.{and-left, and-right}
+use Rattle.planner.proofs.CheckLaws.{words-planes}
 use Rattle.planner.proofs.accepts.Statement.{statement}
 use Rattle.planner.proofs.accepts.Tie as tie
 
 own-accepted-requires : tie.Need-own-accepted-requires
 own-accepted-requires c κs =
-    let s = c .before .before .before .before .args in
-    let t = and-left (ltb (s .i) (s .n) && ltb (s .n) 17) _ (c .if2 .taken) in
-    let i = ltb-true (s .i) (s .n) (and-left _ _ t) in
-    let n = ltb-true (s .n) 17 (and-right (ltb (s .i) (s .n)) _ t) in
-    let w = ltb-true (s .i) (length (s .wanted .now) / 32) (and-right (ltb (s .i) (s .n) && ltb (s .n) 17) _ (c .if2 .taken)) in
+    let s = c .before .before .before .args in
+    let t = and-right (s .each) _ (c .if1 .taken) in
+    let u = and-left (ltb (s .i) (s .n) && ltb (s .n) 17) _ t in
+    let i = ltb-true (s .i) (s .n) (and-left _ _ u) in
+    let n = ltb-true (s .n) 17 (and-right (ltb (s .i) (s .n)) _ u) in
+    let w = ltb-true (s .i) (length (s .wanted .now) / 32) (and-right (ltb (s .i) (s .n) && ltb (s .n) 17) _ t) in
     (i, omega arith, omega arith)
 
 pub accepts-spec : {M : Type 1} → statement M
@@ -23,6 +25,5 @@ accepts-spec =
     tie.close
     (tie.spec
     own-accepted-requires
-    (λ c. rw (c .before .before .if1 .taken, c .before .if2 .taken) (c .own-accepted .ensures))
-    (λ c. rw (c .before .if1 .taken, c .if2 .left))
-    (λ c. rw (c .if1 .left)))
+    (λ c. rw (← and-assoc, c .before .if1 .taken, words-planes) (c .own-accepted .ensures))
+    (λ c. rw (← and-assoc, c .if1 .left)))

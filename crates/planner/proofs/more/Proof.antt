@@ -10,6 +10,6 @@ more-spec =
     tie.close
     (tie.spec
     (λ c κs. search needs)
-    (λ c. rw (lt-ltb _ _ (c .before .before .before .if1 .taken)) (omega (arith, c .before .least .ensures)))
-    (λ c. rw (lt-ltb _ _ (c .before .before .before .if1 .taken)) (omega (arith, c .before .least .ensures)))
+    (λ c. rw (lt-ltb _ _ (c .before .before .if1 .taken)) (omega (arith, c .before .least .ensures)))
+    (λ c. rw (lt-ltb _ _ (c .before .before .if1 .taken)) (omega (arith, c .before .least .ensures)))
     (λ c. rw (le-ltb _ _ (c .if1 .left)) (omega arith)))

@@ -8,12 +8,13 @@ use lib.ListN.{length, drop}
 use borrow.Author.Needs.{needs}
 use borrow.Author.Tests.{not-true, not-false}
 use Rattle.plans.specs.Lists.{wantedAt, wordsAt}
-use Rattle.planner.proofs.CheckLaws.{fromPlanes, words-planes, word-taken, word-refused, words-done, place-in}
+use Rattle.planner.specs.OneDriver.{fromPlanes}
+use Rattle.planner.proofs.CheckLaws.{same-plain, word-taken, word-refused, words-done, place-in}
 use Rattle.planner.proofs.own_accepted.Statement.{statement}
 use Rattle.planner.proofs.own_accepted.Tie as tie
 
 abbrev Inv-loop : tie.InvT-loop
-Inv-loop i n wanted list config p₀ k at₀ a₀ p at a =
+Inv-loop i config n wanted list p₀ k at₀ a₀ p at a =
     (a ≤ k)
     × (k ≤ length list)
     × ((b : ℕ) → b < k → b * n + i < length list)
@@ -21,21 +22,21 @@ Inv-loop i n wanted list config p₀ k at₀ a₀ p at a =
     × (fromPlanes config (wantedAt wanted i) p₀ (wordsAt n list i) ≡ fromPlanes config (wantedAt wanted i) p (drop a (wordsAt n list i)))
 
 abbrev μ-loop : tie.MeasureT-loop
-μ-loop i n wanted list config p₀ k at₀ a₀ p at a = k - a
+μ-loop i config n wanted list p₀ k at₀ a₀ p at a = k - a
 
 loop-holds : tie.Need-loop-holds Inv-loop μ-loop
-loop-holds c = (omega arith, div-le-self _ _, place-in _ _ _ (c .before .before .before .before .before .pre .0), omega arith, refl)
+loop-holds c = (omega arith, div-le-self _ _, place-in _ _ _ (c .before .before .pre .0), omega arith, refl)
 
 returns : tie.Need-returns Inv-loop μ-loop
 returns c =
-    let s = c .before .before .before .before .before .before .before .before .before .before .args in
+    let s = c .before .before .before .before .before .before .before .args in
     let l = c .before .before .before .before .loop in
     let t = sym (c .before .allowed .ensures) ∙ not-true _ (c .if1 .taken) in
-    sym (words-planes (s .d) _ _ ∙ l .inv .4 ∙ word-refused _ _ (l .p) (s .list .now) (s .n) (s .i) (l .a) (l .at) (omega arith) (l .inv .3) t)
+    sym (l .inv .4 ∙ word-refused _ _ (l .p) (s .list .now) (s .n) (s .i) (l .a) (l .at) (omega arith) (l .inv .3) t)
 
 loop-again : tie.Need-loop-again Inv-loop μ-loop
 loop-again c =
-    let s = c .before .before .before .before .before .before .before .before .before .before .before .args in
+    let s = c .before .before .before .before .before .before .before .before .args in
     let l = c .before .before .before .before .before .loop in
     let t = sym (c .before .before .allowed .ensures) ∙ not-false _ (c .before .if1 .left) in (
       omega arith,
@@ -47,9 +48,9 @@ loop-again c =
 
 returns-2 : tie.Need-returns-2 Inv-loop μ-loop
 returns-2 c =
-    let s = c .before .before .before .before .before .before .before .before .args in
+    let s = c .before .before .before .before .before .args in
     let l = c .before .before .loop in
-    c .same .ensures ∙ sym (words-planes (s .d) _ _ ∙ l .inv .4 ∙ words-done _ _ (l .p) (s .list .now) (s .n) (s .i) (l .a) (omega arith))
+    rw (c .plain .ensures) (sym (l .inv .4 ∙ words-done _ _ (l .p) (s .list .now) (s .n) (s .i) (l .a) (omega arith) ∙ same-plain (l .p) _))
 
 pub own-accepted-spec : {M : Type 1} → statement M
 own-accepted-spec =

@@ -1,85 +1,88 @@
--- `planner::write_digit` meets its contract, by the tests that were passed on the way. Assumes nothing.
+-- `planner::write_digit` meets its contract, by what is right and wanted alike. Assumes nothing.
+use Prim.Native.Nat.{ℕ, _+_, _*_, _≤_}
 use native.Mathlib.Omega.{arith}
-use mathlib.Core.Path.{refl}
-use lib.ListN.{length-set}
+use mathlib.Core.Bool.{Bool, true, false, not, _&&_}
+use mathlib.Core.List.{List, [], _∷_}
+use mathlib.Core.Path.{_≡_, refl, _∙_}
+use lib.Dec.{eqb}
+use mir.Val.{boolByte}
 use borrow.Author.Needs.{needs}
-use borrow.Author.Tests.{eq-eqb, ne-eqb}
-use Rattle.plans.proofs.Planner.{length-words}
-use Rattle.planner.specs.Columns.{put}
+use Rattle.ground.specs.Choice.{if}
+use Rattle.plans.specs.Least.{needBy}
+use Rattle.plans.specs.Plan.{put1, wordsBy}
+use Rattle.planner.specs.OneDriver.{put}
+use Rattle.planner.proofs.Puts.{length-put}
 use Rattle.planner.proofs.write_digit.Statement.{statement}
 use Rattle.planner.proofs.write_digit.Tie as tie
 
+one : (b : Bool) → boolByte b ≤ 1
+one true = omega arith
+one false = omega arith
+
+-- by whether P0 is right, P1 is right, and they are wanted alike: the place after a first word, that after a second one, and the list
+abbrev first : Bool → ℕ → ℕ → ℕ
+first r n at = if (not r) (at + n) at
+
+abbrev second : Bool → Bool → Bool → Bool
+second r s v = not s && not ((v && not s) && not r)
+
+module _ (l : List ℕ) (n at k x y : ℕ) where
+  places : (r s v : Bool) → (first r n at ≤ at + needBy r s v * n) × (if (second r s v) (first r n at + n) (first r n at) ≡ at + needBy r s v * n)
+  places true true true = (omega arith, omega arith)
+  places true true false = (omega arith, omega arith)
+  places true false true = (omega arith, omega arith)
+  places true false false = (omega arith, omega arith)
+  places false true true = (omega arith, omega arith)
+  places false true false = (omega arith, omega arith)
+  places false false true = (omega arith, omega arith)
+  places false false false = (omega arith, omega arith)
+
+  written : (r s v : Bool)
+      → put (put l n at (if (not r) ((8192 + 16384 * boolByte (v && not s) + k * 256 + x) ∷ []) [])) n (first r n at) (if (second r s v) (put1 k y ∷ []) [])
+      ≡ put l n at (wordsBy r s v k x y)
+  unfolding put
+  written true true v = refl
+  written true false true = refl
+  written true false false = refl
+  written false true true = refl
+  written false true false = refl
+  written false false true = refl
+  written false false false = refl
+
+write-if-requires : tie.Need-write-if-requires
+write-if-requires c κs =
+    let s = c .before .before .before in
+    let a = s .args in
+    let e = places (a .list .now) (a .n) (a .at) 0 0 0 (eqb (a .a) (a .x)) (eqb (a .b) (a .y)) (eqb (a .x) (a .y)) in
+    (s .pre .1, omega (arith, e .0, s .pre .2))
+
+write-if-requires-2 : tie.Need-write-if-requires-2
+write-if-requires-2 c κs =
+    let s = c .before .before .before .before .before .before .before .before in
+    let a = s .args in
+    let w = c .before .before .before .before .write-if .ensures in
+    let e = places (a .list .now) (a .n) (a .at) 0 0 0 (eqb (a .a) (a .x)) (eqb (a .b) (a .y)) (eqb (a .x) (a .y)) in
+    (s .pre .1, rw (w .0, w .1, length-put, e .1) (s .pre .2))
+
 returns : tie.Need-returns
-unfolding put
-returns c = rw (← length-words 0 0 0, eq-eqb _ _ (c .before .if1 .taken), eq-eqb _ _ (c .if2 .taken)) (refl, omega arith)
-
-slice-write-list : tie.Need-slice-write-list
-slice-write-list c =
-    omega (arith, rw (← length-words 0 0 0, eq-eqb _ _ (c .before .before .if1 .taken), ne-eqb _ _ (c .before .if2 .left)) at (c .before .before .before .before .pre .2))
-
-returns-2 : tie.Need-returns-2
-unfolding put
-returns-2 c = rw (← length-words 0 0 0, c .word .ensures, eq-eqb _ _ (c .before .before .if1 .taken), ne-eqb _ _ (c .before .if2 .left)) (refl, omega arith)
-
-slice-write-list-2 : tie.Need-slice-write-list-2
-slice-write-list-2 c =
-    omega (arith, rw (← length-words 0 0 0, ne-eqb _ _ (c .before .before .if1 .left), eq-eqb _ _ (c .before .if3 .taken)) at (c .before .before .before .before .pre .2))
-
-returns-3 : tie.Need-returns-3
-unfolding put
-returns-3 c = rw (← length-words 0 0 0, c .word2 .ensures, ne-eqb _ _ (c .before .before .if1 .left), eq-eqb _ _ (c .before .if3 .taken)) (refl, omega arith)
-
-slice-write-list-3 : tie.Need-slice-write-list-3
-slice-write-list-3 c =
-    omega (arith, rw (← length-words 0 0 0, ne-eqb _ _ (c .before .before .before .if1 .left), ne-eqb _ _ (c .before .before .if3 .left), eq-eqb _ _ (c .before .if4 .taken)) at (c .before .before .before .before .before .pre .2))
-
-returns-4 : tie.Need-returns-4
-unfolding put
-returns-4 c = rw (← length-words 0 0 0, c .word3 .ensures, ne-eqb _ _ (c .before .before .before .if1 .left), ne-eqb _ _ (c .before .before .if3 .left), eq-eqb _ _ (c .before .if4 .taken)) (refl, omega arith)
-
-slice-write-list-4 : tie.Need-slice-write-list-4
-slice-write-list-4 c =
-    omega (arith, rw (← length-words 0 0 0, ne-eqb _ _ (c .before .before .before .if1 .left), ne-eqb _ _ (c .before .before .if3 .left), ne-eqb _ _ (c .before .if4 .left)) at (c .before .before .before .before .before .pre .2))
-
-slice-write-list-5 : tie.Need-slice-write-list-5
-slice-write-list-5 c =
-    rw length-set
-    (omega (arith, rw (← length-words 0 0 0, ne-eqb _ _ (c .before .before .before .before .if1 .left), ne-eqb _ _ (c .before .before .before .if3 .left), ne-eqb _ _ (c .before .before .if4 .left)) at (c .before .before .before .before .before .before .pre .2)))
-
-returns-5 : tie.Need-returns-5
-unfolding put
-returns-5 c = rw (← length-words 0 0 0, c .before .word4 .ensures, c .word5 .ensures, ne-eqb _ _ (c .before .before .before .before .if1 .left), ne-eqb _ _ (c .before .before .before .if3 .left), ne-eqb _ _ (c .before .before .if4 .left)) (refl, omega arith)
+returns c =
+    let a = c .before .before .before .before .before .before .before .before .before .before .before .args in
+    let v = rw (c .before .before .before .before .before .before .before .before .word .ensures) at (c .before .before .before .before .before .before .before .write-if .ensures) in
+    let w = rw (v .0, v .1, c .before .before .before .word2 .ensures) at (c .before .before .write-if2 .ensures) in (
+      w .0 ∙ written (a .list .now) (a .n) (a .at) (a .k) (a .x) (a .y) (eqb (a .a) (a .x)) (eqb (a .b) (a .y)) (eqb (a .x) (a .y)),
+      w .1 ∙ places (a .list .now) (a .n) (a .at) 0 0 0 (eqb (a .a) (a .x)) (eqb (a .b) (a .y)) (eqb (a .x) (a .y)) .1,
+    )
 
 pub write-digit-spec : {M : Type 1} → statement M
 write-digit-spec =
     tie.close
     (tie.spec
-    returns
+    (λ c. search needs)
+    (λ c. let a = c .before .before .args in omega (arith, one (eqb (a .x) (a .y) && not (eqb (a .b) (a .y)))))
+    (λ c. let a = c .before .before .args in omega (arith, one (eqb (a .x) (a .y) && not (eqb (a .b) (a .y)))))
+    (λ c κs. let a = c .before .before .args in (omega (arith, one (eqb (a .x) (a .y) && not (eqb (a .b) (a .y)))), search needs))
+    write-if-requires
     (λ c κs. search needs)
+    write-if-requires-2
     (λ c. search needs)
-    slice-write-list
-    (λ c. search needs)
-    (λ c. search needs)
-    returns-2
-    (λ c κs. search needs)
-    (λ c. search needs)
-    slice-write-list-2
-    (λ c. search needs)
-    (λ c. search needs)
-    returns-3
-    (λ c κs. search needs)
-    (λ c. search needs)
-    slice-write-list-3
-    (λ c. search needs)
-    (λ c. search needs)
-    returns-4
-    (λ c. search needs)
-    (λ c κs. search needs)
-    (λ c. search needs)
-    slice-write-list-4
-    (λ c κs. search needs)
-    (λ c. search needs)
-    slice-write-list-5
-    (λ c. search needs)
-    (λ c. search needs)
-    returns-5)
+    returns)

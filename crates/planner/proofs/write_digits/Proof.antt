@@ -10,7 +10,7 @@ use Rattle.plans.specs.Lists.{wantedAt}
 use Rattle.plans.specs.Least.{total, needAt}
 use Rattle.plans.specs.Plan.{steps}
 use Rattle.plans.proofs.Planner.{length-steps}
-use Rattle.planner.specs.Columns.{put}
+use Rattle.planner.specs.OneDriver.{put}
 use Rattle.planner.proofs.Puts.{length-put, put-append, needs-fit}
 use Rattle.planner.proofs.WantedLaws.{wanted-p0, wanted-p1}
 use Rattle.planner.proofs.write_digits.Statement.{statement}

@@ -5,7 +5,7 @@ use native.Mathlib.Omega.{arith}
 use mathlib.Core.Path.{_≡_, refl}
 use lib.ListN.{length, replicate, length-set}
 use borrow.Author.Needs.{needs}
-use Rattle.planner.specs.Columns.{put}
+use Rattle.planner.specs.OneDriver.{put}
 use Rattle.planner.proofs.write_waits.Statement.{statement}
 use Rattle.planner.proofs.write_waits.Tie as tie
 

@@ -1,7 +1,7 @@
 //! The calls, their numbers and their answers ("Numbers a call may give").
 
 use crate::blink::{add_clocks, shown, Plane};
-use crate::brightness::sixteenths;
+use crate::brightness::{brightness, Brightness};
 use crate::keys::scan;
 use crate::record::Record;
 use crate::segments::{pins, NO_PIN_DRIVEN};
@@ -37,7 +37,8 @@ pub enum Call {
         font14: Vec<u16>,
         font16: Vec<u16>,
     },
-    /// The sixteenths of a digit, 0 to 7 and then 0a to 7a.
+    /// The sixteenths of a digit, 0 to 7 and then 0a to 7a, and what ruled:
+    /// 0 none, 1 the global register, 2 the digit's own nibble, 3 display test.
     Brightness { driver: usize, digit: usize },
     /// The plane shown: 0 for P0, 1 for P1.
     Shown { driver: usize },
@@ -187,7 +188,7 @@ pub fn serve(record: &mut Record, call: &Call) -> Vec<u8> {
         } => {
             return pins(record, *cathode, font14, font16);
         }
-        Call::Brightness { digit, .. } => return vec![sixteenths(record, *digit)],
+        Call::Brightness { digit, .. } => return brightness(record, *digit).bytes(),
         Call::Shown { .. } => return vec![u8::from(shown(record) == Plane::P1)],
         Call::Interrupt { .. } => return vec![record.interrupt],
         Call::AnswerMark { .. } => return vec![record.answer_mark],
@@ -195,14 +196,12 @@ pub fn serve(record: &mut Record, call: &Call) -> Vec<u8> {
     Vec::new()
 }
 
-/// What a refused call gives back: 0 for a number, no pin driven, an empty part.
+/// What a refused call gives back: 0 for a number, no pin driven, no ruler, an empty part.
 fn refused(call: &Call) -> Vec<u8> {
     match call {
         Call::Segments { .. } => NO_PIN_DRIVEN.to_vec(),
-        Call::Brightness { .. }
-        | Call::Shown { .. }
-        | Call::Interrupt { .. }
-        | Call::AnswerMark { .. } => vec![0],
+        Call::Brightness { .. } => Brightness::REFUSED.bytes(),
+        Call::Shown { .. } | Call::Interrupt { .. } | Call::AnswerMark { .. } => vec![0],
         _ => Vec::new(),
     }
 }

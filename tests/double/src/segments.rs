@@ -87,13 +87,17 @@ fn names(display: Display, cathode: usize) -> Vec<&'static str> {
     row
 }
 
+/// With display test off, a cathode is dark in shutdown or above the scan limit.
+pub fn dark(record: &Record, cathode: usize) -> bool {
+    record.test != 1 && (record.s == 0 || cathode > usize::from(record.limit))
+}
+
 /// The nineteen pins of one cathode under the lent glyph tables of 128 words.
 pub fn pins(record: &Record, cathode: usize, font14: &[u16], font16: &[u16]) -> Vec<u8> {
-    let test = record.test == 1;
-    let dark = record.s == 0 || cathode > usize::from(record.limit);
-    if !test && dark {
+    if dark(record, cathode) {
         return NO_PIN_DRIVEN.to_vec();
     }
+    let test = record.test == 1;
     let display = display(record, cathode);
     let lights = |name: &str| match display {
         Display::Sixteen => glyph_lit(shown_byte(record, cathode), font16, name),

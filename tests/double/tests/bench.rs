@@ -69,6 +69,7 @@ fn example_5() {
 fn example_6() {
     for (nibble, sixteenths) in [(0x0, 1), (0xE, 15), (0xF, 15)] {
         let mut record = Record::power_up();
+        record.s = 1;
         record.global = nibble;
         record.intensities = [nibble; 8];
         let even = Call::Brightness {
@@ -79,11 +80,11 @@ fn example_6() {
             driver: 1,
             digit: 15,
         };
-        assert_eq!(ask(&record, even.clone()), [sixteenths]);
+        assert_eq!(ask(&record, even.clone()), [sixteenths, 1]);
         record.i = 1;
         record.global = 6;
-        assert_eq!(ask(&record, even), [sixteenths]);
-        assert_eq!(ask(&record, odd), [1]);
+        assert_eq!(ask(&record, even), [sixteenths, 2]);
+        assert_eq!(ask(&record, odd), [1, 2]);
     }
 }
 

@@ -62,12 +62,13 @@ fn pressed_keys_are_read_where_digit_type_is_written() {
 #[test]
 fn the_highest_nibble_is_15_sixteenths() {
     let mut record = Record::power_up();
+    record.s = 1;
     record.global = 0xF;
     let brightness = Call::Brightness {
         driver: 1,
         digit: 0,
     };
-    assert_eq!(call(&mut [record], &brightness).back, [15]);
+    assert_eq!(call(&mut [record], &brightness).back, [15, 1]);
 }
 
 #[test]

@@ -86,7 +86,7 @@ fn test_mode_lights_the_configured_display() {
             }
         )
         .back,
-        [7]
+        [7, 3]
     );
     chain[0].test = 0;
     chain[0].s = 1;

@@ -1,4 +1,4 @@
--- Believed: document 01, "Bench examples", those of the display, and more of "Segments and brightness"; document 02, request 2:
+-- Believed: document 01, "Bench examples", those of the display, and more of "Segments and brightness"; document 02, requests 2 and 5:
 -- what the definitions give beside what the documents say.
 -- Assumes nothing.
 use Prim.Native.Nat.{ℕ, _+_}

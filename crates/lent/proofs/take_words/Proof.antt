@@ -40,7 +40,7 @@ use Rattle.pass.proofs.in_room.Symbol as room-def
 use Rattle.pass.proofs.in_room.Met as room-thm
 use Rattle.lent.proofs.Records.{size, byte, half, half-sized, device, device-sized, planes-of, is-stored, Cell, at-p0, at-p1, at-shift, at-mark, in-p0, in-p1, in-shift, in-mark}
 use Rattle.lent.proofs.Parts.{part, rest}
-use Rattle.lent.proofs.Locals.{span, envOf, held, starts, leaves}
+use Rattle.lent.proofs.Locals.{span, values, envOf, held, starts, leaves}
 use Rattle.lent.proofs.Elements.{points, copies}
 use Rattle.lent.proofs.Places.{bytes, long, at-most, look-byte, store-byte, meets}
 use Rattle.high_words.specs.HighWords.{isHigh, digitOf, newP0, newP1, newShift, newMark, highTaken}
@@ -213,7 +213,7 @@ module _ {M : Type 1} (𝓤 : URA M) (H : Heap 𝓤) (A : Atoms 𝓤) (W : Given
       → Room R n → Room S (length ws) → Walk 𝓤 H A take-words.ended stayed (take-words.clauses 𝓤 H A mem run) 𝓣 code.function y tt
   walk 𝓣 known-room known-work known-high known-at known-p0 known-p1 known-shift known-mark room room₁ =
       qed W ((‵ (flft κ q) ⊛ ‵ (flft κ₁ q₁) ⊛ ‵ ftrue) ∷ ‵ (owns (MutSlice (named 0) κ R ∷ ShrSlice (named 1) κ₁ S ∷ []) (y .3) (y .4)) ∷ []) ∵ enter ! (𝓣 .C) (𝓣 .Λ) code.function _ _ $
-      starts W τs ! (λ l0 l1 l2 l3 l4 l5 l6 l7 l8 l9 l10 l11 l12 l13 l14 l15 l16 l17 l18 l19 l20 l21 l22 l23 l24 l25 l26 l27 l28 l29 l30 l31 l32 l33 l34 l35 l36 l37 l38 D dies. params1 ! $ pass1 ! (init ! 1 refl (tt, (tt, (record { fits = room .0 }, tt)))) $ pass1 ! (init ! 2 refl (tt, (tt, (record { fits = room₁ .0 }, tt)))) $ pass0 ! $
+      starts W (values τs) ! (λ l0 l1 l2 l3 l4 l5 l6 l7 l8 l9 l10 l11 l12 l13 l14 l15 l16 l17 l18 l19 l20 l21 l22 l23 l24 l25 l26 l27 l28 l29 l30 l31 l32 l33 l34 l35 l36 l37 l38 D dies. params1 ! $ pass1 ! (init ! 1 refl (tt, (tt, (record { fits = room .0 }, tt)))) $ pass1 ! (init ! 2 refl (tt, (tt, (record { fits = room₁ .0 }, tt)))) $ pass0 ! $
       -- [_0; _1; ..; _38; that they die; the tokens; what the parameters own]
       assigns ! (of-opd ! (load ! (from ! (fld ! refl (stop !))) (look-in ! 1 (sub ! 1 refl (whole !))))) (from ! (stop !)) (init ! 9 refl (tt, record { fits = room .0 })) $
       assigns ! (of-opd ! (load ! (from ! (fld ! refl (stop !))) (look-in ! 2 (sub ! 1 refl (whole !))))) (from ! (stop !)) (init ! 10 refl (tt, record { fits = room₁ .0 })) $

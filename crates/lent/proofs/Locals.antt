@@ -1,4 +1,5 @@
 -- A function's locals, allocated and freed all at once. That they die is one entry of the context, which a walk knows by a name only: a walk's steps are cheap where its context is short, and where its locals' types are written short.
+--     values           locals of given types, as most are
 --     starts           they are allocated: [_0; _1; ..; that they die; ..]
 --     span             n places from k on
 --     envOf            the locals of given types at given places
@@ -27,9 +28,9 @@ abbrev pub span : ℕ → ℕ → List ℕ
 span k zero = []
 span k (suc n) = k ∷ span (suc k) n
 
-abbrev pub locals-of : List Ty → List Local
-locals-of [] = []
-locals-of (τ ∷ τs) = local τ valueLocal ∷ locals-of τs
+abbrev pub values : List Ty → List Local
+values [] = []
+values (τ ∷ τs) = local τ valueLocal ∷ values τs
 
 abbrev pub envOf : List Ty → List ℕ → List (Ty × ℕ)
 envOf [] bs = []
@@ -48,13 +49,13 @@ module _ {M : Type 1} (𝓤 : URA M) where
   held (e ∷ E) (some v ∷ vs) = ‵ (fat fullShare (e .0) (e .1) zero v) ∷ held E vs
 
   -- P of the locals and of their rooms, wherever each local is
-  abbrev pub Wherever : List Ty → (List (Ty × ℕ) → List (Item 𝓤) → Type 2) → Type 2
+  abbrev pub Wherever : List Local → (List (Ty × ℕ) → List (Item 𝓤) → Type 2) → Type 2
   Wherever [] P = P [] []
-  Wherever (τ ∷ τs) P = (b : ℕ) → Wherever τs (λ E Δ. P ((τ, b) ∷ E) (‵ (froom τ b zero) ∷ Δ))
+  Wherever (local τ h ∷ ls) P = (b : ℕ) → Wherever ls (λ E Δ. P ((τ, b) ∷ E) (‵ (froom τ b zero) ∷ Δ))
 
-  wherever : (τs : List Ty) {P Q : List (Ty × ℕ) → List (Item 𝓤) → Type 2} → ((E : List (Ty × ℕ)) (Δ : List (Item 𝓤)) → P E Δ → Q E Δ) → Wherever τs P → Wherever τs Q
+  wherever : (ls : List Local) {P Q : List (Ty × ℕ) → List (Item 𝓤) → Type 2} → ((E : List (Ty × ℕ)) (Δ : List (Item 𝓤)) → P E Δ → Q E Δ) → Wherever ls P → Wherever ls Q
   wherever [] f p = f [] [] p
-  wherever (τ ∷ τs) f p = λ b. wherever τs (λ E Δ. f ((τ, b) ∷ E) (‵ (froom τ b zero) ∷ Δ)) (p b)
+  wherever (local τ h ∷ ls) f p = λ b. wherever ls (λ E Δ. f ((τ, b) ∷ E) (‵ (froom τ b zero) ∷ Δ)) (p b)
 
 module _ {M : Type 1} {𝓤 : URA M} {H : Heap 𝓤} {A : Atoms 𝓤} where
   -- D says that the locals of E die
@@ -74,9 +75,9 @@ module _ {M : Type 1} {𝓤 : URA M} {H : Heap 𝓤} {A : Atoms 𝓤} {K : Type 
   becomes : {Γ : List (Item 𝓤)} {G : Goal 𝓤 H} → K → (Γ′ : List (Item 𝓤)) → ent 𝓤 (⋆ 𝓤 H A Γ) (⋆ 𝓤 H A Γ′) → Step K W Γ′ G Γ G
   becomes t Γ′ h = step (λ s. by t (via 𝓤 (⋆ 𝓤 H A Γ′) h (s .prf)))
 
-  pub starts : (τs : List Ty) → K → {Γ : List (Item 𝓤)} {Kt : Env 𝓤 H → Goal 𝓤 H} → Wherever 𝓤 τs (λ E Δ. (D : Item 𝓤) → Dies W D E → Seq K W (Δ ++ (D ∷ Γ)) (Kt E)) → Seq K W Γ (allocs (locals-of τs) Kt)
+  pub starts : (ls : List Local) → K → {Γ : List (Item 𝓤)} {Kt : Env 𝓤 H → Goal 𝓤 H} → Wherever 𝓤 ls (λ E Δ. (D : Item 𝓤) → Dies W D E → Seq K W (Δ ++ (D ∷ Γ)) (Kt E)) → Seq K W Γ (allocs ls Kt)
   starts [] t s = alloc0 t $ nothing t $ s (‵ ftrue) (record { out = id⊢ 𝓤 _ })
-  starts (τ ∷ τs) t {Γ} s = alloc1 t (λ b. starts τs t (wherever 𝓤 τs (λ E Δ s D d.
+  starts (local τ h ∷ ls) t {Γ} s = alloc1 t (λ b. starts ls t (wherever 𝓤 ls (λ E Δ s D d.
       becomes t (D ∷ ‵ (froom τ b zero) ∷ ‵ (fdies τ b) ∷ (Γ ++ Δ)) (turned 𝓤 H A Δ (D ∷ ‵ (froom τ b zero) ∷ ‵ (fdies τ b) ∷ Γ)) $ move t (2 ∷ 0 ∷ []) $ join t $ move t (1 ∷ []) $
       becomes t (‵ (froom τ b zero) ∷ (Δ ++ ((‵ (fdies τ b) ⊛ D) ∷ Γ))) (turned-below 𝓤 H A (‵ (froom τ b zero)) ((‵ (fdies τ b) ⊛ D) ∷ Γ) Δ) $ s (‵ (fdies τ b) ⊛ D) (record { out = monoR 𝓤 (sem 𝓤 H A (fdies τ b)) (d .out) })) (s b)))
 

@@ -32,17 +32,22 @@ in-room room wanted n k i h =
       leb-true (k * n) room (and-right four (leb (k * n) room) h),
     )
 
-module _ (l : List ℕ) (n k i : ℕ) (p : Planes) (c : Config) (q : Planes) where
-  pub too-many : k < least p q → l ≡ withPlan l n k i (planBy p c q)
-  too-many h = rw (plan-length, lt-leb (least p q) k h)
+-- by the words that are needed as the planes are, r, and after a clear, s
+module _ (l : List ℕ) (n k i : ℕ) (p : Planes) (c : Config) (q : Planes) (r s : ℕ) (e : r ≡ plain p q) (f : s ≡ plain cleared q) where
+  pub kept-many : r ≤ 1 + s → k < r → l ≡ withPlan l n k i (planBy p c q)
+  kept-many h m = rw (plan-length, lt-leb (least p q) k (omega arith))
 
-  pub kept : plain p q ≤ anew q → plain p q ≤ k → put l n i (steps p q 16 ++ replicate (k - plain p q) 0) ≡ withPlan l n k i (planBy p c q)
+  pub anew-many : 1 + s < r → k < 1 + s → l ≡ withPlan l n k i (planBy p c q)
+  anew-many h m = rw (plan-length, lt-leb (least p q) k (omega arith))
+
+  pub kept-fits : r ≤ 1 + s → r ≤ k → (new : List ℕ) → new ≡ put l n i (steps p q 16 ++ replicate (k - r) 0) → new ≡ withPlan l n k i (planBy p c q)
   unfolding planBy
-  kept h m = rw (le-ltb (anew q) (plain p q) h, length-steps, le-leb (plain p q) k m)
+  kept-fits h m new g = rw (le-ltb (anew q) (plain p q) (omega arith), length-steps, ← e, le-leb r k m) g
 
-  pub drawn-anew : anew q < plain p q → anew q ≤ k
-      → put (set l i (clearWord c)) n (i + n) (steps cleared q 16 ++ replicate (k - anew q) 0) ≡ withPlan l n k i (planBy p c q)
+  pub anew-fits : 1 + s < r → 1 + s ≤ k → (new : List ℕ)
+      → new ≡ put (set l i (clearWord c)) n (i + n) (steps cleared q 16 ++ replicate (k - (1 + s)) 0)
+      → new ≡ withPlan l n k i (planBy p c q)
   unfolding planBy put
-  drawn-anew h m =
-      let e : length (clearWord c ∷ steps cleared q 16) ≡ anew q = omega (arith, length-steps cleared q 16) in
-      rw (lt-ltb (anew q) (plain p q) h, e, le-leb (anew q) k m)
+  anew-fits h m new g =
+      let z : length (clearWord c ∷ steps cleared q 16) ≡ 1 + s = omega (arith, length-steps cleared q 16) in
+      rw (lt-ltb (anew q) (plain p q) (omega arith), z, le-leb (1 + s) k m) g

@@ -360,15 +360,14 @@ fn acted(p: Planes, w: u16) -> Planes
 fn own_accepted(
     i: usize,
     config: Config,
-    held: Planes,
+    mut p: Planes,
     n: usize,
     wanted: &[u8],
     list: &[u16],
 ) -> bool
     requires { ⌜ (i < n) × (n ≤ 16) × (32 * i + 32 ≤ length (now wanted)) ⌝ }
-    ensures { λ r. ⌜ r ≡ fromPlanes config (wantedAt (now (wanted .entry)) i) held (wordsAt n (now (list .entry)) i) ⌝ }
+    ensures { λ r. ⌜ r ≡ fromPlanes config (wantedAt (now (wanted .entry)) i) p (wordsAt n (now (list .entry)) i) ⌝ }
 {
-    let mut p = held;
     let k = list.len() / n;
     let mut at = i;
     let mut a = 0;

@@ -1,19 +1,22 @@
 -- `chain::max6954_access` meets its contract: a walk of its MIR, by hand. The words are a local array, kept as a row of elements: it is lent to `shift_words` and to `wire::shift`, each for a lifetime of the call's own, and shared with `take_words`.
 -- Assumes nothing.
+use mathlib.Core.List.{_++_}
+use mathlib.Core.Option.{some as holds}
 use lib.Dec.{T as Holds}
 use lib.ListN.{take, replicate}
-use mir.Syntax.{w16, tyUnit, tyRef, erased, mut, imm}
+use mir.Syntax.{Local, local, memorySlot, w16, tyBool, tyUnit, tyRef, tyArray, erased, mut, imm, Place, Opd as Operand, Body, seq, call}
 use mir.Val.{Val, vunit, WT, hasTy}
 use base.Fml.{flent}
-use types.Kit.{Item, put, some, later, use3, await, pick, feqI}
+use prog.Wp.{Env, Calls, Loops}
+use sound.WpLaws.{FmC}
+use types.Kit.{Item, put, some, later, Go, Sq, Post, runs, lands, await, pick, feqI}
 use types.Part.{rep}
-use types.SemTy.{Arr, cells}
+use types.Run.{Opds}
 use types.Share.{arr-parts}
 use types.Tokens.{lft-new, lft-end, lent-back}
 use denote.Array.{Array, array-repeat, array-lawful}
-use denote.Index.{whole-in, whole-out}
-use denote.Lend.{Held, lends-slice, lends-shr-slice, slice-back}
-use denote.Memory.{mem as memOf, shares, pointee}
+use denote.Lend.{Held, lends-shr-slice}
+use denote.Memory.{shares, pointee}
 use denote.Plain.{uint-copy, uint-lawful}
 use denote.Signature.{shrSliceOf}
 use denote.Slice.{sliceTy}
@@ -37,8 +40,9 @@ use Rattle.pass.proofs.access_by_arguments as early′
 use Rattle.pass.proofs.access_by_arguments.Symbol as early-def
 use Rattle.pass.proofs.access_by_arguments.Met as early-thm
 use Rattle.lent.proofs.Records.{size, byte, half, device}
-use Rattle.lent.proofs.Walk.{Walk, LentShared, lends-shared, shared-back, calls-value, calls-fn, lands-known, leave, leave-room, forks-to, proves}
-use Rattle.lent.proofs.Arrays.{S, array-opens, array-closes, gives-up}
+use Rattle.lent.proofs.Walk.{Walk, LentShared, lends-shared, shared-back, calls-value, calls-fn, lands-known, forks-to, proves}
+use Rattle.lent.proofs.Locals.{span, values, starts, leaves}
+use Rattle.lent.proofs.Arrays.{S, array-opens, array-closes, row-lent, row-back, gives-up}
 use Rattle.chain.proofs.Asks.{not-zero, is-zero}
 use Rattle.lent.proofs.shift_words as looked
 use Rattle.lent.proofs.shift_words.Symbol as looked-def
@@ -53,6 +57,10 @@ use Rattle.chain.proofs.max6954_access.Code as code
 
 abbrev R : RattleType
 R = device .row
+
+abbrev locals : List Local
+locals = values (byte .ty ∷ sliceTy (tyRef (named 0) mut (pointee (R .written))) ∷ size .ty ∷ sliceTy (tyRef (named 1) imm (byte .ty)) ∷ sliceTy (tyRef (named 2) mut (byte .ty)) ∷ size .ty ∷ byte .ty ∷ []) ++ (local (tyArray (half .ty) 16) memorySlot ∷ values (byte .ty ∷ size .ty ∷ size .ty ∷ tyRef erased imm (pointee (R .written)) ∷ sliceTy (tyRef erased imm (pointee (R .written))) ∷ tyRef erased mut (tyArray (half .ty) 16) ∷ sliceTy (tyRef erased mut (half .ty)) ∷ tyBool
+    ∷ tyUnit ∷ tyRef erased mut (tyArray (half .ty) 16) ∷ sliceTy (tyRef erased mut (half .ty)) ∷ tyRef erased mut (byte .ty) ∷ sliceTy (tyRef erased mut (byte .ty)) ∷ tyRef erased mut (pointee (R .written)) ∷ sliceTy (tyRef erased mut (pointee (R .written))) ∷ tyRef erased imm (tyArray (half .ty) 16) ∷ sliceTy (tyRef erased imm (half .ty)) ∷ []))
 
 abbrev stayed : Stays (access.ended .signature .params) (access.ended .kept)
 stayed = (gave-slice (0 ∷ []) tt (plain (λ _. R)), (stay-dropped (plain (λ _. size .row)) yes, (stay-dropped (shrSliceOf (1 ∷ []) tt (plain (λ _. byte .row))) yes, (gave-slice (2 ∷ []) tt (plain (λ _. byte .row)), tt))))
@@ -96,6 +104,9 @@ module _ {M : Type 1} (𝓤 : URA M) (H : Heap 𝓤) (A : Atoms 𝓤) (W : Given
   abbrev given : List ℕ
   given = roomAfter old n clocks (sent .now) (answer .now)
 
+  abbrev taken : List Device
+  taken = takenTo ys next (inRoom n (length next))
+
   old-long : length old ≡ 16
   old-long = length-words ys zeros m (pass-in-le early n (length zeros))
 
@@ -126,82 +137,103 @@ module _ {M : Type 1} (𝓤 : URA M) (H : Heap 𝓤) (A : Atoms 𝓤) (W : Given
   unit-typed : (w : Val) → w ∷ [] ≡ vunit ∷ [] → Holds (hasTy tyUnit w) × WT w
   unit-typed w e = subst (λ (v : Val). Holds (hasTy tyUnit v) × WT v) (sym (ap only e)) (tt, tt)
 
+  -- the chain, the answer and what was sent; the array, where its words are ws
+  abbrev Chain : Item 𝓤
+  Chain = ‵ (MutSlice (named 0) κ R .own (ref γ ys) (slice-vals (ref γ ys)))
+
+  abbrev Answer : Item 𝓤
+  Answer = ‵ (MutSlice (named 2) κ₂ (byte .row) .own answer (slice-vals answer))
+
+  abbrev Sent : Item 𝓤
+  Sent = ‵ (ShrSlice (named 1) κ₁ (byte .row) .own sent (slice-vals sent))
+
+  abbrev Array-of : ℕ → List ℕ → Item 𝓤
+  Array-of l ws = ‵ (row S fullShare ws l 0)
+
+  -- ---- the three calls that are lent something, over any rest of the context
+  module _ {Γ : List (Item 𝓤)} {E : Env 𝓤 H} {C : Calls 𝓤 H} {Λ : Loops 𝓤 H} {p : Post 𝓤 H} {xs : List Operand} {d : Place} {rest : Body} (fm : FmC 𝓤 H (W .laws) C) (room : Room R n) (l : ℕ) where
+    -- the chain is lent to `shift_words`, and the words
+    looks : Triple 𝓤 (C looked-def.name) (tripleOf 𝓤 H A looked.signature (looked.spec 𝓤 H A mem run)) → Is (byte .row) early (byte .val early ∷ [])
+        → ((ν : ℕ) (δ : GName) (ν₁ : ℕ) (δ₁ : GName) → Opds (Go {0}) W (raw (tripleOf 𝓤 H A looked.signature (looked.spec 𝓤 H A mem run) .pre (at-looked l ν δ ν₁ δ₁, tt)) ∷ ‵ (flent (ν₁ ∷ []) (Held S 16 l 0 δ₁)) ∷ ‵ (LentShared R κ (ν ∷ []) q γ b o ys) ∷ Γ) E xs (sliceVal (b, o) n ∷ byte .val early ∷ sliceVal (l, 0) 16 ∷ []))
+        → (Is (byte .row) nr (byte .val nr ∷ []) → Holds (hasTy (byte .ty) (byte .val nr)) × WT (byte .val nr) → Sq W (Chain ∷ ‵ (flft κ q) ∷ Array-of l old ∷ Γ) (lands C Λ E d (byte .val nr) rest p))
+        → Sq W (Chain ∷ ‵ (flft κ q) ∷ Array-of l zeros ∷ Γ) (runs C Λ E (seq (call looked-def.name xs d) rest) p)
+    looks known is-early os next =
+        lft-new ! tt (λ ν. move ! (1 ∷ 2 ∷ []) $ use2 W (later (some (λ (δ : GName). ‵ (ShrSlice (named 0) (ν ∷ []) R .own (ref δ ys) (slice-vals (ref δ ys))) ⊛ ‵ (LentShared R κ (ν ∷ []) q γ b o ys)))) (lends-shared R κ (ν ∷ []) q γ b o 𝓤 H A W (named 0) (named 0) ys) $ await ! tt $ pick ! (λ δ. split ! $
+        move ! (3 ∷ []) $ row-lent ! tt S (named 1) zeros l 0 room16 (λ ν₁ δ₁.
+        -- [the words lent; what their lender keeps; ν₁; the chain lent; what its lender keeps; ν; ..]
+        nothing ! $ move ! (1 ∷ 0 ∷ []) $ fjoin ! $ owned ! (byte .row) (Is (byte .row)) (byte .makes 𝓤 H A W) early (byte .val early ∷ []) is-early $ fjoin ! $ move ! (3 ∷ 0 ∷ []) $ fjoin ! $
+        nothing ! $ move ! (3 ∷ 0 ∷ []) $ join ! $ move ! (4 ∷ 0 ∷ []) $ join ! $ use2 W (raw (onEntry 𝓤 H A looked.signature (at-looked l ν δ ν₁ δ₁ .0) (at-looked l ν δ ν₁ δ₁ .1) (at-looked l ν δ ν₁ δ₁ .3) (at-looked l ν δ ν₁ δ₁ .4))) (id⊢ 𝓤 _) $
+        calls-fn ! fm looked.ended (looked.clauses 𝓤 H A mem run) known (at-looked l ν δ ν₁ δ₁) tt (id⊢ 𝓤 _) (λ r ws. (r ≡ nr) × (ws .1 .1 .0 ≡ old)) (λ r ws. refl) (os ν δ ν₁ δ₁) (λ w r ws e. lands-known ! byte nr w r (e .0) (λ is-nr wt-nr.
+        move ! (1 ∷ []) $ fsplit ! $ drop ! $ fsplit ! $ drop ! $ fsplit ! $ fsplit ! $ move ! (1 ∷ []) $ feqL ! (λ _. rewrite ! 0 (λ (l : List ℕ). ‵ (finally S δ₁ l)) (e .1) refl $ move ! (1 ∷ []) $ drop ! $
+        move ! (1 ∷ []) $ use1 W (‵ (flft (ν ∷ []) fullShare) ⊛ ‵ (flft (ν₁ ∷ []) fullShare) ⊛ ‵ ftrue) (id⊢ 𝓤 _) $ split ! $ move ! (1 ∷ []) $ split ! $ move ! (0 ∷ 3 ∷ 4 ∷ []) $ row-back ! tt S old $
+        move ! (2 ∷ []) $ lft-end ! tt $ move ! (0 ∷ 3 ∷ []) $ use2 W (later (Chain ⊛ ‵ (flft κ q))) (shared-back R κ (ν ∷ []) q γ b o 𝓤 H A W (named 0) (named 0) ys room) $ await ! tt $ split ! $ move ! (3 ∷ []) $ drop ! $ next is-nr wt-nr))))))
+
+    -- the words are lent to `wire::shift`, which takes the answer and what was sent for good
+    shifts : Triple 𝓤 (C shift-def.name) (tripleOf 𝓤 H A shift.signature (shift.spec 𝓤 H A mem run)) → Is (size .row) clocks (size .val clocks ∷ [])
+        → ((ν : ℕ) (δ : GName) → Opds (Go {0}) W (raw (tripleOf 𝓤 H A shift.signature (shift.spec 𝓤 H A mem run) .pre (at-shift l ν δ, tt)) ∷ ‵ (flent (ν ∷ []) (Held S (length old) l 0 δ)) ∷ Γ) E xs (sliceVal (l, 0) (length old) ∷ size .val n ∷ size .val clocks ∷ sliceVal (sent .ptr) (length (sent .now)) ∷ sliceVal (answer .ptr) (length (answer .now)) ∷ []))
+        → ((w : Val) → w ∷ [] ≡ vunit ∷ [] → length next ≡ 16 → length given ≡ length (answer .now) → Sq W (Array-of l next ∷ Toks ∷ ‵ (finally (byte .row) (answer .name) given) ∷ Γ) (lands C Λ E d w rest p))
+        → Sq W (Array-of l old ∷ Toks ∷ Answer ∷ Sent ∷ Γ) (runs C Λ E (seq (call shift-def.name xs d) rest) p)
+    shifts known is-clocks os k = row-lent ! tt S (named 0) old l 0 (subst (Room S) (sym old-long) room16) (λ ν δ.
+        -- [the words lent; what their lender keeps; ν; the other tokens; answer; sent; ..]
+        nothing ! $ move ! (5 ∷ 0 ∷ []) $ fjoin ! $ move ! (5 ∷ 0 ∷ []) $ fjoin ! $ owned ! (size .row) (Is (size .row)) (size .makes 𝓤 H A W) clocks (size .val clocks ∷ []) is-clocks $ fjoin ! $ owned ! (size .row) (Is (size .row)) (size .makes 𝓤 H A W) n (size .val n ∷ []) (refl, room .0) $ fjoin ! $ move ! (1 ∷ 0 ∷ []) $ fjoin ! $
+        move ! (2 ∷ 3 ∷ []) $ join ! $ use2 W (raw (onEntry 𝓤 H A shift.signature (at-shift l ν δ .0) (at-shift l ν δ .1) (at-shift l ν δ .3) (at-shift l ν δ .4))) (id⊢ 𝓤 _) $
+        calls-fn ! fm shift.ended (shift.clauses 𝓤 H A mem run) known (at-shift l ν δ) tt (id⊢ 𝓤 _) (λ r ws. (ws .0 ≡ next) × (ws .1 .1 .1 .1 .0 ≡ given)) (λ r ws. refl) (os ν δ) (λ w r ws e. feqL ! (λ unit.
+        move ! (1 ∷ []) $ fsplit ! $ fsplit ! $ move ! (1 ∷ []) $ feqL ! (λ long. rewrite ! 0 (λ (l : List ℕ). ‵ (finally S δ l)) (e .0) refl $
+        move ! (1 ∷ []) $ fsplit ! $ drop ! $ fsplit ! $ drop ! $ fsplit ! $ drop ! $ fsplit ! $ fsplit ! $ move ! (1 ∷ []) $ feqL ! (λ long′. rewrite ! 0 (λ (l : List ℕ). ‵ (finally (byte .row) (answer .name) l)) (e .1) refl $ move ! (1 ∷ []) $ drop ! $
+        move ! (2 ∷ []) $ use1 W (‵ (flft (ν ∷ []) fullShare) ⊛ Toks) (id⊢ 𝓤 _) $ split ! $ move ! (0 ∷ 3 ∷ 4 ∷ []) $ row-back ! tt S next $ k w unit (ap length (sym (e .0)) ∙ long ∙ old-long) (ap length (sym (e .1)) ∙ long′))))))
+
+    -- the chain is passed to `take_words` for good, and the words are shared with it
+    takes : Triple 𝓤 (C taking-def.name) (tripleOf 𝓤 H A taking.signature (taking.spec 𝓤 H A mem run)) → length next ≡ 16
+        → ((ν : ℕ) (δ : GName) → Opds (Go {0}) W (raw (tripleOf 𝓤 H A taking.signature (taking.spec 𝓤 H A mem run) .pre (at-taking l ν δ, tt)) ∷ ‵ (flent (ν ∷ []) (arr-parts (shares S) (length next) .part fullShare next l 0)) ∷ Γ) E xs (sliceVal (b, o) n ∷ sliceVal (l, 0) (length next) ∷ []))
+        → ((w : Val) → w ∷ [] ≡ vunit ∷ [] → length taken ≡ n → Sq W (‵ (finally R γ taken) ∷ ‵ (flft κ q) ∷ Array-of l next ∷ Γ) (lands C Λ E d w rest p))
+        → Sq W (Chain ∷ ‵ (flft κ q) ∷ Array-of l next ∷ Γ) (runs C Λ E (seq (call taking-def.name xs d) rest) p)
+    takes known next-long os k = lft-new ! tt (λ ν. move ! (3 ∷ []) $ feqI ! ℕ (length next) (length next) refl $ fjoin ! $
+        use1 W (later (some (λ (δ : GName). ‵ (ShrSlice (named 1) (ν ∷ []) S .own (words l δ next) (slice-vals (words l δ next))) ⊛ ‵ (flent (ν ∷ []) (arr-parts (shares S) (length next) .part fullShare next l 0))))) (lends-shr-slice 𝓤 H A W S (named 1) (ν ∷ []) fullShare next l 0 (subst (Room S) (sym next-long) room16)) $ await ! tt $ pick ! (λ δ. split ! $
+        nothing ! $ move ! (1 ∷ 0 ∷ []) $ fjoin ! $ move ! (3 ∷ 0 ∷ []) $ fjoin ! $ nothing ! $ move ! (3 ∷ 0 ∷ []) $ join ! $ move ! (3 ∷ 0 ∷ []) $ join ! $ use2 W (raw (onEntry 𝓤 H A taking.signature (at-taking l ν δ .0) (at-taking l ν δ .1) (at-taking l ν δ .3) (at-taking l ν δ .4))) (id⊢ 𝓤 _) $
+        calls-fn ! fm taking.ended (taking.clauses 𝓤 H A mem run) known (at-taking l ν δ) tt (id⊢ 𝓤 _) (λ r ws. ws .0 ≡ taken) (λ r ws. refl) (os ν δ) (λ w r ws e. feqL ! (λ unit.
+        move ! (1 ∷ []) $ fsplit ! $ fsplit ! $ move ! (1 ∷ []) $ feqL ! (λ long. rewrite ! 0 (λ (l : List Device). ‵ (finally R γ l)) e refl $ move ! (1 ∷ []) $ drop ! $
+        move ! (1 ∷ []) $ use1 W (‵ (flft κ q) ⊛ ‵ (flft (ν ∷ []) fullShare) ⊛ ‵ ftrue) (id⊢ 𝓤 _) $ split ! $ move ! (1 ∷ []) $ split ! $ lft-end ! tt $ move ! (0 ∷ 4 ∷ []) $ lent-back ! tt $ fsplit ! $ drop ! $ move ! (1 ∷ []) $ drop ! $ move ! (2 ∷ 1 ∷ 0 ∷ []) $ k w unit (ap length (sym e) ∙ long))))))
+
   walk : (𝓣 : Tables 𝓤 H) → Triple 𝓤 (𝓣 .C early-def.name) (tripleOf 𝓤 H A early′.signature (early′.spec 𝓤 H A mem run)) → Triple 𝓤 (𝓣 .C looked-def.name) (tripleOf 𝓤 H A looked.signature (looked.spec 𝓤 H A mem run))
       → Triple 𝓤 (𝓣 .C shift-def.name) (tripleOf 𝓤 H A shift.signature (shift.spec 𝓤 H A mem run)) → Triple 𝓤 (𝓣 .C taking-def.name) (tripleOf 𝓤 H A taking.signature (taking.spec 𝓤 H A mem run))
       → Room R n → Is (size .row) clocks (size .val clocks ∷ []) → Room (byte .row) (length (sent .now)) → Room (byte .row) (length (answer .now)) → Walk 𝓤 H A access.ended stayed (access.clauses 𝓤 H A mem run) 𝓣 code.function y tt
   walk 𝓣 known-early known-looked known-shift known-taking room is₁ room₂ room₃ =
       qed W ((‵ (flft κ q) ⊛ ‵ (flft κ₁ q₁) ⊛ ‵ (flft κ₂ q₂) ⊛ ‵ ftrue) ∷ ‵ (owns (MutSlice (named 0) κ R ∷ size .row ∷ ShrSlice (named 1) κ₁ (byte .row) ∷ MutSlice (named 2) κ₂ (byte .row) ∷ []) (y .3) (y .4)) ∷ []) ∵ enter ! (𝓣 .C) (𝓣 .Λ) code.function _ _ $
-      alloc1 ! (λ l0. alloc1 ! (λ l1. alloc1 ! (λ l2. alloc1 ! (λ l3. alloc1 ! (λ l4. alloc1 ! (λ l5. alloc1 ! (λ l6. alloc1 ! (λ l7. alloc1 ! (λ l8. alloc1 ! (λ l9. alloc1 ! (λ l10. alloc1 ! (λ l11. alloc1 ! (λ l12. alloc1 ! (λ l13. alloc1 ! (λ l14. alloc1 ! (λ l15. alloc1 ! (λ l16. alloc1 ! (λ l17. alloc1 ! (λ l18. alloc1 ! (λ l19. alloc1 ! (λ l20. alloc1 ! (λ l21. alloc1 ! (λ l22. alloc1 ! (λ l23. alloc1 ! (λ l24. alloc0 ! $ params1 ! $
-      pass1 ! (init ! 46 refl (tt, (tt, (record { fits = room .0 }, tt)))) $ pass1 ! (init ! 44 refl (size .typed 𝓤 H A W clocks is₁)) $ pass1 ! (init ! 42 refl (tt, (tt, (record { fits = room₂ .0 }, tt)))) $ pass1 ! (init ! 40 refl (tt, (tt, (record { fits = room₃ .0 }, tt)))) $ pass0 ! $
-      -- [_24; …; _23; …; ..; _0; …; the tokens; what the parameters own]
-      assigns ! (of-opd ! (load ! (from ! (fld ! refl (stop !))) (look-in ! 46 (sub ! 1 refl (whole !))))) (from ! (stop !)) (init ! 38 refl (tt, record { fits = room .0 })) $
-      assigns ! (of-opd ! (load ! (from ! (fld ! refl (stop !))) (look-in ! 42 (sub ! 1 refl (whole !))))) (from ! (stop !)) (init ! 30 refl (tt, record { fits = room₂ .0 })) $
-      assigns ! (of-opd ! (load ! (from ! (fld ! refl (stop !))) (look-in ! 40 (sub ! 1 refl (whole !))))) (from ! (stop !)) (init ! 28 refl (tt, record { fits = room₃ .0 })) $
+      starts W locals ! (λ l0 l1 l2 l3 l4 l5 l6 l7 l8 l9 l10 l11 l12 l13 l14 l15 l16 l17 l18 l19 l20 l21 l22 l23 l24 D dies. params1 ! $
+      pass1 ! (init ! 1 refl (tt, (tt, (record { fits = room .0 }, tt)))) $ pass1 ! (init ! 2 refl (size .typed 𝓤 H A W clocks is₁)) $ pass1 ! (init ! 3 refl (tt, (tt, (record { fits = room₂ .0 }, tt)))) $ pass1 ! (init ! 4 refl (tt, (tt, (record { fits = room₃ .0 }, tt)))) $ pass0 ! $
+      -- [_0; _1; ..; _24; that they die; the tokens; what the parameters own]
+      assigns ! (of-opd ! (load ! (from ! (fld ! refl (stop !))) (look-in ! 1 (sub ! 1 refl (whole !))))) (from ! (stop !)) (init ! 5 refl (tt, record { fits = room .0 })) $ assigns ! (of-opd ! (load ! (from ! (fld ! refl (stop !))) (look-in ! 3 (sub ! 1 refl (whole !))))) (from ! (stop !)) (init ! 9 refl (tt, record { fits = room₂ .0 })) $ assigns ! (of-opd ! (load ! (from ! (fld ! refl (stop !))) (look-in ! 4 (sub ! 1 refl (whole !))))) (from ! (stop !)) (init ! 10 refl (tt, record { fits = room₃ .0 })) $
       calls-value ! (fmOf 𝓤 H (W .laws) 𝓣) (size ∷ size ∷ size ∷ size ∷ []) byte (λ _. emp 𝓤) (λ a. accessByArguments (a .0) (a .1 .0) (a .1 .1 .0) (a .1 .1 .1 .0)) known-early (n, (clocks, (length (sent .now), (length (answer .now), tt)))) ((refl, room .0), (is₁, ((refl, room₂ .0), ((refl, room₃ .0), tt)))) (id⊢ 𝓤 _)
-      (and-then ! (load ! (from ! (stop !)) (look ! 39 refl)) (and-then ! (load ! (from ! (stop !)) (look ! 45 refl)) (and-then ! (load ! (from ! (stop !)) (look ! 31 refl)) (and-then ! (load ! (from ! (stop !)) (look ! 29 refl)) (no-more !))))) (λ is-early wt-early. land ! (from ! (stop !)) (init ! 36 refl wt-early) $
+      (and-then ! (load ! (from ! (stop !)) (look ! 6 refl)) (and-then ! (load ! (from ! (stop !)) (look ! 3 refl)) (and-then ! (load ! (from ! (stop !)) (look ! 10 refl)) (and-then ! (load ! (from ! (stop !)) (look ! 11 refl)) (no-more !))))) (λ is-early wt-early. land ! (from ! (stop !)) (init ! 6 refl wt-early) $
       owned ! S (Is S) (half .makes 𝓤 H A W) 0 (half .val 0 ∷ []) (refl, lit< tt) $ use1 W (‵ (Array S 16 .own zeros (_ ∷ []))) (array-repeat 𝓤 H A W S (uint-copy 𝓤 H A W w16) 16 0 (half .val 0)) $
-      peeks ! (Array S 16) (Is (Array S 16)) (shows 𝓤 H A (Array S 16)) zeros _ (λ is-zeros. assigns ! (rep ! 16 (lit ! tt)) (from ! (stop !)) (init ! 35 refl (array-lawful 𝓤 H A W S (uint-lawful 𝓤 H A W w16) 16 .typed zeros _ is-zeros .0)) $
-      move ! (35 ∷ 0 ∷ []) $ array-opens ! 16 zeros _ l7 0 (λ _.
-      move ! (51 ∷ 50 ∷ []) $ fsplit ! $ move ! (1 ∷ []) $ fsplit ! $ drop ! $ fsplit ! $ move ! (1 ∷ []) $ fsplit ! $ move ! (1 ∷ []) $ drop ! $ move ! (3 ∷ []) $ split ! $ move ! (4 ∷ 0 ∷ 5 ∷ 1 ∷ 2 ∷ 3 ∷ []) $
-      -- [the chain; its token; the words; the other tokens; answer; sent; _24, from 6; …; _8 at 38; …; _7's …; _6 at 41; …; ..; _0 at 53]
-      assigns ! (addr ! (from ! (fld ! refl (hop ! (look-in ! 51 (sub ! 0 refl (whole !))) (stop !))))) (from ! (stop !)) (init ! 32 refl (tt, tt)) $ assigns ! (agg ! (and-then ! (load ! (from ! (stop !)) (look ! 32 refl)) (and-then ! (load ! (from ! (fld ! refl (stop !))) (look-in ! 51 (sub ! 1 refl (whole !)))) (no-more !)))) (from ! (stop !)) (init ! 30 refl (tt, (tt, (record { fits = room .0 }, tt)))) $
-      assigns ! (addr ! (from ! (stop !))) (from ! (stop !)) (init ! 28 refl (tt, tt)) $ assigns ! (agg ! (and-then ! (load ! (from ! (stop !)) (look ! 28 refl)) (and-then ! (lit ! tt) (no-more !)))) (from ! (stop !)) (init ! 26 refl (tt, (tt, (record { fits = lit< tt }, tt)))) $
-      lft-new ! tt (λ ν. move ! (1 ∷ 2 ∷ []) $ use2 W (later (some (λ (δ : GName). ‵ (ShrSlice (named 0) (ν ∷ []) R .own (ref δ ys) (slice-vals (ref δ ys))) ⊛ ‵ (LentShared R κ (ν ∷ []) q γ b o ys)))) (lends-shared R κ (ν ∷ []) q γ b o 𝓤 H A W (named 0) (named 0) ys) $ await ! tt $ pick ! (λ δ. split ! $
-      lft-new ! tt (λ ν₁. move ! (4 ∷ []) $ use1 W (‵ (cells (memOf S) zeros l7 0)) (whole-in 𝓤 H A W S zeros l7 0) $
-      use1 W (later (some (λ (δ₁ : GName). ‵ (MutSlice (named 1) (ν₁ ∷ []) S .own (words l7 δ₁ zeros) (slice-vals (words l7 δ₁ zeros))) ⊛ ‵ (flent (ν₁ ∷ []) (Held S 16 l7 0 δ₁))))) (lends-slice 𝓤 H A W S (named 1) (ν₁ ∷ []) zeros l7 0 room16) $ await ! tt $ pick ! (λ δ₁. split ! $
-      -- [the words lent; what their lender keeps; ν₁; the chain lent; what its lender keeps; ν; the other tokens; answer; sent; ..]
-      nothing ! $ move ! (1 ∷ 0 ∷ []) $ fjoin ! $ owned ! (byte .row) (Is (byte .row)) (byte .makes 𝓤 H A W) early (byte .val early ∷ []) is-early $ fjoin ! $ move ! (3 ∷ 0 ∷ []) $ fjoin ! $
-      nothing ! $ move ! (3 ∷ 0 ∷ []) $ join ! $ move ! (4 ∷ 0 ∷ []) $ join ! $ use2 W (raw (onEntry 𝓤 H A looked.signature (at-looked l7 ν δ ν₁ δ₁ .0) (at-looked l7 ν δ ν₁ δ₁ .1) (at-looked l7 ν δ ν₁ δ₁ .3) (at-looked l7 ν δ ν₁ δ₁ .4))) (id⊢ 𝓤 _) $
-      calls-fn ! (fmOf 𝓤 H (W .laws) 𝓣) looked.ended (looked.clauses 𝓤 H A mem run) known-looked (at-looked l7 ν δ ν₁ δ₁) tt (id⊢ 𝓤 _) (λ r ws. (r ≡ nr) × (ws .1 .1 .0 ≡ old)) (λ r ws. refl)
-      (and-then ! (load ! (from ! (stop !)) (look ! 30 refl)) (and-then ! (load ! (from ! (stop !)) (look ! 41 refl)) (and-then ! (load ! (from ! (stop !)) (look ! 26 refl)) (no-more !)))) (λ w r ws e. lands-known ! byte nr w r (e .0) (λ is-nr wt-nr.
-      move ! (1 ∷ []) $ fsplit ! $ drop ! $ fsplit ! $ drop ! $ fsplit ! $ fsplit ! $ move ! (1 ∷ []) $ feqL ! (λ _. rewrite ! 0 (λ (l : List ℕ). ‵ (finally S δ₁ l)) (e .1) refl $ move ! (1 ∷ []) $ drop ! $
-      move ! (1 ∷ []) $ use1 W (‵ (flft (ν ∷ []) fullShare) ⊛ ‵ (flft (ν₁ ∷ []) fullShare) ⊛ ‵ ftrue) (id⊢ 𝓤 _) $ split ! $ move ! (1 ∷ []) $ split ! $ lft-end ! tt $ move ! (0 ∷ 4 ∷ 3 ∷ []) $
-      use3 W (later (‵ (Arr (memOf S) 16 .lies old l7 0))) (slice-back 𝓤 H A W S (ν₁ ∷ []) δ₁ old 16 l7 0) $ await ! tt $ fsplit ! $ drop ! $ use1 W (‵ (row S fullShare old l7 0)) (whole-out 𝓤 H A W S old l7 0) $
-      move ! (2 ∷ []) $ lft-end ! tt $ move ! (0 ∷ 3 ∷ []) $ use2 W (later (‵ (MutSlice (named 0) κ R .own (ref γ ys) (slice-vals (ref γ ys))) ⊛ ‵ (flft κ q))) (shared-back R κ (ν ∷ []) q γ b o 𝓤 H A W (named 0) (named 0) ys room) $ await ! tt $ split ! $ move ! (3 ∷ []) $ drop ! $
-      -- [the chain; its token; the words; the other tokens; answer; sent; _24, from 6; ..]
-      land ! (from ! (stop !)) (init ! 38 refl wt-nr) $ assigns ! (bin ! (load ! (from ! (stop !)) (look ! 38 refl)) (lit ! tt) tt) (from ! (stop !)) (init ! 24 refl (tt, tt)) $
-      forks-to ! (λ (x : Left) (l : List (Item 𝓤)). put 𝓤 H A 53 (‵ (fat fullShare (byte .ty) l0 0 (byte .val nr))) (put 𝓤 H A 5 (‵ ftrue) (put 𝓤 H A 4 (‵ (finally (byte .row) (answer .name) (x .bytes))) (put 𝓤 H A 2 (‵ (row S fullShare (x .row-of) l7 0)) (put 𝓤 H A 0 (‵ (finally R γ (x .chain))) l))))) (load ! (from ! (stop !)) (look ! 24 refl)) (λ Q end no.
+      peeks ! (Array S 16) (Is (Array S 16)) (shows 𝓤 H A (Array S 16)) zeros _ (λ is-zeros. assigns ! (rep ! 16 (lit ! tt)) (from ! (stop !)) (init ! 8 refl (array-lawful 𝓤 H A W S (uint-lawful 𝓤 H A W w16) 16 .typed zeros _ is-zeros .0)) $
+      move ! (8 ∷ 0 ∷ []) $ array-opens ! 16 zeros _ l7 0 (λ _.
+      move ! (27 ∷ 26 ∷ []) $ fsplit ! $ move ! (1 ∷ []) $ fsplit ! $ drop ! $ fsplit ! $ move ! (1 ∷ []) $ fsplit ! $ move ! (1 ∷ []) $ drop ! $ move ! (3 ∷ []) $ split ! $ move ! (4 ∷ 0 ∷ 5 ∷ 1 ∷ 2 ∷ 3 ∷ []) $
+      -- [the chain; its token; the words; the other tokens; answer; sent; _0, from 6; ..; _6; _8, from 13; ..; _24; that they die]
+      assigns ! (addr ! (from ! (fld ! refl (hop ! (look-in ! 7 (sub ! 0 refl (whole !))) (stop !))))) (from ! (stop !)) (init ! 16 refl (tt, tt)) $ assigns ! (agg ! (and-then ! (load ! (from ! (stop !)) (look ! 16 refl)) (and-then ! (load ! (from ! (fld ! refl (stop !))) (look-in ! 7 (sub ! 1 refl (whole !)))) (no-more !)))) (from ! (stop !)) (init ! 17 refl (tt, (tt, (record { fits = room .0 }, tt)))) $
+      assigns ! (addr ! (from ! (stop !))) (from ! (stop !)) (init ! 18 refl (tt, tt)) $ assigns ! (agg ! (and-then ! (load ! (from ! (stop !)) (look ! 18 refl)) (and-then ! (lit ! tt) (no-more !)))) (from ! (stop !)) (init ! 19 refl (tt, (tt, (record { fits = lit< tt }, tt)))) $
+      looks (fmOf 𝓤 H (W .laws) 𝓣) room l7 known-looked is-early (λ ν δ ν₁ δ₁. (and-then ! (load ! (from ! (stop !)) (look ! 17 refl)) (and-then ! (load ! (from ! (stop !)) (look ! 12 refl)) (and-then ! (load ! (from ! (stop !)) (look ! 19 refl)) (no-more !))))) (λ is-nr wt-nr.
+      land ! (from ! (stop !)) (init ! 13 refl wt-nr) $ assigns ! (bin ! (load ! (from ! (stop !)) (look ! 13 refl)) (lit ! tt) tt) (from ! (stop !)) (init ! 20 refl (tt, tt)) $
+      forks-to ! (λ (x : Left) (l : List (Item 𝓤)). put 𝓤 H A 6 (‵ (fat fullShare (byte .ty) l0 0 (byte .val nr))) (put 𝓤 H A 5 (‵ ftrue) (put 𝓤 H A 4 (‵ (finally (byte .row) (answer .name) (x .bytes))) (put 𝓤 H A 2 (‵ (row S fullShare (x .row-of) l7 0)) (put 𝓤 H A 0 (‵ (finally R γ (x .chain))) l))))) (load ! (from ! (stop !)) (look ! 20 refl)) (λ Q end no.
       let refused = access-refused ys clocks (sent .now) (answer .now) (not-zero nr no) in
-      assigns ! (of-opd ! (load ! (from ! (stop !)) (look ! 38 refl))) (from ! (stop !)) (init ! 53 refl wt-nr) $ use1 W (‵ (finally R γ ys)) (gives-up 𝓤 H A W R (named 0) κ (ref γ ys) (slice-vals (ref γ ys))) $ move ! (4 ∷ []) $ use1 W (‵ (finally (byte .row) (answer .name) (answer .now))) (gives-up 𝓤 H A W (byte .row) (named 2) κ₂ answer (slice-vals answer)) $
+      assigns ! (of-opd ! (load ! (from ! (stop !)) (look ! 13 refl))) (from ! (stop !)) (init ! 6 refl wt-nr) $ use1 W (‵ (finally R γ ys)) (gives-up 𝓤 H A W R (named 0) κ (ref γ ys) (slice-vals (ref γ ys))) $ move ! (4 ∷ []) $ use1 W (‵ (finally (byte .row) (answer .name) (answer .now))) (gives-up 𝓤 H A W (byte .row) (named 2) κ₂ answer (slice-vals answer)) $
       move ! (5 ∷ []) $ drop ! $ nothing ! $ move ! (2 ∷ 3 ∷ 4 ∷ 5 ∷ 1 ∷ 0 ∷ []) $ end (record { chain = ys; bytes = answer .now; row-of = old; is = refused; chain-long = refl; bytes-long = refl; words-long = old-long }))
       (λ end yes′.
-      let z : nr ≡ 0 = is-zero nr yes′ in
-      let served = access-served ys clocks (sent .now) (answer .now) z in
-      assigns ! (addr ! (from ! (stop !))) (from ! (stop !)) (init ! 20 refl (tt, tt)) $ assigns ! (agg ! (and-then ! (load ! (from ! (stop !)) (look ! 20 refl)) (and-then ! (lit ! tt) (no-more !)))) (from ! (stop !)) (init ! 18 refl (tt, (tt, (record { fits = lit< tt }, tt)))) $ rewrite ! 18 (λ (k : ℕ). ‵ (fat fullShare (sliceTy (tyRef erased mut (pointee (S .written)))) l18 0 (sliceVal (l7, 0) k))) (sym old-long) refl $
-      assigns ! (addr ! (from ! (fld ! refl (hop ! (look-in ! 45 (sub ! 0 refl (whole !))) (stop !))))) (from ! (stop !)) (init ! 16 refl (tt, tt)) $ assigns ! (agg ! (and-then ! (load ! (from ! (stop !)) (look ! 16 refl)) (and-then ! (load ! (from ! (fld ! refl (stop !))) (look-in ! 45 (sub ! 1 refl (whole !)))) (no-more !)))) (from ! (stop !)) (init ! 14 refl (tt, (tt, (record { fits = room₃ .0 }, tt)))) $
-      lft-new ! tt (λ ν₂. move ! (3 ∷ []) $ use1 W (‵ (cells (memOf S) old l7 0)) (whole-in 𝓤 H A W S old l7 0) $
-      use1 W (later (some (λ (δ₂ : GName). ‵ (MutSlice (named 0) (ν₂ ∷ []) S .own (words l7 δ₂ old) (slice-vals (words l7 δ₂ old))) ⊛ ‵ (flent (ν₂ ∷ []) (Held S (length old) l7 0 δ₂))))) (lends-slice 𝓤 H A W S (named 0) (ν₂ ∷ []) old l7 0 (subst (Room S) (sym old-long) room16)) $ await ! tt $ pick ! (λ δ₂. split ! $
-      -- [the words lent; what their lender keeps; ν₂; the chain; its token; the other tokens; answer; sent; ..]
-      nothing ! $ move ! (7 ∷ 0 ∷ []) $ fjoin ! $ move ! (7 ∷ 0 ∷ []) $ fjoin ! $ owned ! (size .row) (Is (size .row)) (size .makes 𝓤 H A W) clocks (size .val clocks ∷ []) is₁ $ fjoin ! $ owned ! (size .row) (Is (size .row)) (size .makes 𝓤 H A W) n (size .val n ∷ []) (refl, room .0) $ fjoin ! $ move ! (1 ∷ 0 ∷ []) $ fjoin ! $
-      move ! (2 ∷ 5 ∷ []) $ join ! $ use2 W (raw (onEntry 𝓤 H A shift.signature (at-shift l7 ν₂ δ₂ .0) (at-shift l7 ν₂ δ₂ .1) (at-shift l7 ν₂ δ₂ .3) (at-shift l7 ν₂ δ₂ .4))) (id⊢ 𝓤 _) $
-      calls-fn ! (fmOf 𝓤 H (W .laws) 𝓣) shift.ended (shift.clauses 𝓤 H A mem run) known-shift (at-shift l7 ν₂ δ₂) tt (id⊢ 𝓤 _) (λ r ws. (ws .0 ≡ next) × (ws .1 .1 .1 .1 .0 ≡ given)) (λ r ws. refl)
-      (and-then ! (load ! (from ! (stop !)) (look ! 16 refl)) (and-then ! (load ! (from ! (stop !)) (look ! 41 refl)) (and-then ! (load ! (from ! (stop !)) (look ! 47 refl)) (and-then ! (load ! (from ! (stop !)) (look ! 45 refl)) (and-then ! (load ! (from ! (stop !)) (look ! 12 refl)) (no-more !)))))) (λ w₂ r₂ ws₂ e₂. feqL ! (λ unit₂.
-      move ! (1 ∷ []) $ fsplit ! $ fsplit ! $ move ! (1 ∷ []) $ feqL ! (λ long₂. rewrite ! 0 (λ (l : List ℕ). ‵ (finally S δ₂ l)) (e₂ .0) refl $
-      move ! (1 ∷ []) $ fsplit ! $ drop ! $ fsplit ! $ drop ! $ fsplit ! $ drop ! $ fsplit ! $ fsplit ! $ move ! (1 ∷ []) $ feqL ! (λ long₃. rewrite ! 0 (λ (l : List ℕ). ‵ (finally (byte .row) (answer .name) l)) (e₂ .1) refl $ move ! (1 ∷ []) $ drop ! $
-      let next-long : length next ≡ 16 = ap length (sym (e₂ .0)) ∙ long₂ ∙ old-long in
-      move ! (2 ∷ []) $ use1 W (‵ (flft (ν₂ ∷ []) fullShare) ⊛ Toks) (id⊢ 𝓤 _) $ split ! $ lft-end ! tt $ move ! (0 ∷ 4 ∷ 3 ∷ []) $
-      use3 W (later (‵ (Arr (memOf S) (length old) .lies next l7 0))) (slice-back 𝓤 H A W S (ν₂ ∷ []) δ₂ next (length old) l7 0) $ await ! tt $ fsplit ! $ drop ! $ use1 W (‵ (row S fullShare next l7 0)) (whole-out 𝓤 H A W S next l7 0) $
-      land ! (from ! (stop !)) (init ! 21 refl (unit-typed w₂ unit₂)) $ move ! (3 ∷ 4 ∷ 0 ∷ 1 ∷ 2 ∷ []) $
-      -- [the chain; its token; the words; the other tokens; answer's last list; _24, from 5; …; _4 at 44; …; _1 at 50; …; _0 at 52]
-      assigns ! (addr ! (from ! (fld ! refl (hop ! (look-in ! 50 (sub ! 0 refl (whole !))) (stop !))))) (from ! (stop !)) (init ! 11 refl (tt, tt)) $ assigns ! (agg ! (and-then ! (load ! (from ! (stop !)) (look ! 11 refl)) (and-then ! (load ! (from ! (fld ! refl (stop !))) (look-in ! 50 (sub ! 1 refl (whole !)))) (no-more !)))) (from ! (stop !)) (init ! 9 refl (tt, (tt, (record { fits = room .0 }, tt)))) $
-      assigns ! (addr ! (from ! (stop !))) (from ! (stop !)) (init ! 7 refl (tt, tt)) $ assigns ! (agg ! (and-then ! (load ! (from ! (stop !)) (look ! 7 refl)) (and-then ! (lit ! tt) (no-more !)))) (from ! (stop !)) (init ! 5 refl (tt, (tt, (record { fits = lit< tt }, tt)))) $ rewrite ! 5 (λ (k : ℕ). ‵ (fat fullShare (sliceTy (tyRef erased imm (pointee (S .written)))) l24 0 (sliceVal (l7, 0) k))) (sym next-long) refl $
-      lft-new ! tt (λ ν₃. move ! (3 ∷ []) $ feqI ! ℕ (length next) (length next) refl $ fjoin ! $
-      use1 W (later (some (λ (δ₃ : GName). ‵ (ShrSlice (named 1) (ν₃ ∷ []) S .own (words l7 δ₃ next) (slice-vals (words l7 δ₃ next))) ⊛ ‵ (flent (ν₃ ∷ []) (arr-parts (shares S) (length next) .part fullShare next l7 0))))) (lends-shr-slice 𝓤 H A W S (named 1) (ν₃ ∷ []) fullShare next l7 0 (subst (Room S) (sym next-long) room16)) $ await ! tt $ pick ! (λ δ₃. split ! $
-      nothing ! $ move ! (1 ∷ 0 ∷ []) $ fjoin ! $ move ! (3 ∷ 0 ∷ []) $ fjoin ! $ nothing ! $ move ! (3 ∷ 0 ∷ []) $ join ! $ move ! (3 ∷ 0 ∷ []) $ join ! $ use2 W (raw (onEntry 𝓤 H A taking.signature (at-taking l7 ν₃ δ₃ .0) (at-taking l7 ν₃ δ₃ .1) (at-taking l7 ν₃ δ₃ .3) (at-taking l7 ν₃ δ₃ .4))) (id⊢ 𝓤 _) $
-      calls-fn ! (fmOf 𝓤 H (W .laws) 𝓣) taking.ended (taking.clauses 𝓤 H A mem run) known-taking (at-taking l7 ν₃ δ₃) tt (id⊢ 𝓤 _) (λ r ws. ws .0 ≡ takenTo ys next (inRoom n (length next))) (λ r ws. refl)
-      (and-then ! (load ! (from ! (stop !)) (look ! 8 refl)) (and-then ! (load ! (from ! (stop !)) (look ! 4 refl)) (no-more !))) (λ w₃ r₃ ws₃ e₃. feqL ! (λ unit₃.
-      move ! (1 ∷ []) $ fsplit ! $ fsplit ! $ move ! (1 ∷ []) $ feqL ! (λ long₄. rewrite ! 0 (λ (l : List Device). ‵ (finally R γ l)) e₃ refl $ move ! (1 ∷ []) $ drop ! $
-      move ! (1 ∷ []) $ use1 W (‵ (flft κ q) ⊛ ‵ (flft (ν₃ ∷ []) fullShare) ⊛ ‵ ftrue) (id⊢ 𝓤 _) $ split ! $ move ! (1 ∷ []) $ split ! $ lft-end ! tt $ move ! (0 ∷ 4 ∷ []) $ lent-back ! tt $ fsplit ! $ drop ! $ move ! (3 ∷ 2 ∷ 0 ∷ 4 ∷ 5 ∷ 1 ∷ []) $
-      land ! (from ! (stop !)) (store ! 22 refl (unit-typed w₃ unit₃)) $ assigns ! (of-opd ! (load ! (from ! (stop !)) (look ! 38 refl))) (from ! (stop !)) (init ! 53 refl wt-nr) $
-      forget ! 6 refl $ forget ! 8 refl $ forget ! 10 refl $ forget ! 12 refl $ forget ! 14 refl $ forget ! 16 refl $ forget ! 18 refl $ forget ! 20 refl $ forget ! 22 refl $ end (record { chain = takenTo ys next (inRoom n (length next)); bytes = given; row-of = next; is = served; chain-long = ap length (sym e₃) ∙ long₄; bytes-long = ap length (sym (e₂ .1)) ∙ long₃; words-long = next-long })))))))))))))
+      let served = access-served ys clocks (sent .now) (answer .now) (is-zero nr yes′) in
+      assigns ! (addr ! (from ! (stop !))) (from ! (stop !)) (init ! 22 refl (tt, tt)) $ assigns ! (agg ! (and-then ! (load ! (from ! (stop !)) (look ! 22 refl)) (and-then ! (lit ! tt) (no-more !)))) (from ! (stop !)) (init ! 23 refl (tt, (tt, (record { fits = lit< tt }, tt)))) $ rewrite ! 23 (λ (k : ℕ). ‵ (fat fullShare (sliceTy (tyRef erased mut (half .ty))) l18 0 (sliceVal (l7, 0) k))) (sym old-long) refl $
+      assigns ! (addr ! (from ! (fld ! refl (hop ! (look-in ! 10 (sub ! 0 refl (whole !))) (stop !))))) (from ! (stop !)) (init ! 24 refl (tt, tt)) $ assigns ! (agg ! (and-then ! (load ! (from ! (stop !)) (look ! 24 refl)) (and-then ! (load ! (from ! (fld ! refl (stop !))) (look-in ! 10 (sub ! 1 refl (whole !)))) (no-more !)))) (from ! (stop !)) (init ! 25 refl (tt, (tt, (record { fits = room₃ .0 }, tt)))) $
+      move ! (2 ∷ 3 ∷ 4 ∷ 5 ∷ []) $ shifts (fmOf 𝓤 H (W .laws) 𝓣) room l7 known-shift is₁ (λ ν δ. (and-then ! (load ! (from ! (stop !)) (look ! 21 refl)) (and-then ! (load ! (from ! (stop !)) (look ! 9 refl)) (and-then ! (load ! (from ! (stop !)) (look ! 6 refl)) (and-then ! (load ! (from ! (stop !)) (look ! 7 refl)) (and-then ! (load ! (from ! (stop !)) (look ! 23 refl)) (no-more !))))))) (λ w unit next-long given-long. land ! (from ! (stop !)) (init ! 20 refl (unit-typed w unit)) $
+      -- [the words; the other tokens; answer's last list; the chain; its token; _0, from 5; ..; _6; _8, from 12; ..]
+      assigns ! (addr ! (from ! (fld ! refl (hop ! (look-in ! 6 (sub ! 0 refl (whole !))) (stop !))))) (from ! (stop !)) (init ! 25 refl (tt, tt)) $ assigns ! (agg ! (and-then ! (load ! (from ! (stop !)) (look ! 25 refl)) (and-then ! (load ! (from ! (fld ! refl (stop !))) (look-in ! 6 (sub ! 1 refl (whole !)))) (no-more !)))) (from ! (stop !)) (init ! 26 refl (tt, (tt, (record { fits = room .0 }, tt)))) $
+      assigns ! (addr ! (from ! (stop !))) (from ! (stop !)) (init ! 27 refl (tt, tt)) $ assigns ! (agg ! (and-then ! (load ! (from ! (stop !)) (look ! 27 refl)) (and-then ! (lit ! tt) (no-more !)))) (from ! (stop !)) (init ! 28 refl (tt, (tt, (record { fits = lit< tt }, tt)))) $ rewrite ! 28 (λ (k : ℕ). ‵ (fat fullShare (sliceTy (tyRef erased imm (half .ty))) l24 0 (sliceVal (l7, 0) k))) (sym next-long) refl $
+      move ! (3 ∷ 4 ∷ 0 ∷ []) $ takes (fmOf 𝓤 H (W .laws) 𝓣) room l7 known-taking next-long (λ ν δ. (and-then ! (load ! (from ! (stop !)) (look ! 25 refl)) (and-then ! (load ! (from ! (stop !)) (look ! 27 refl)) (no-more !)))) (λ w′ unit′ taken-long. land ! (from ! (stop !)) (store ! 20 refl (unit-typed w′ unit′)) $
+      assigns ! (of-opd ! (load ! (from ! (stop !)) (look ! 12 refl))) (from ! (stop !)) (init ! 5 refl wt-nr) $ nothing ! $ move ! (1 ∷ 2 ∷ 3 ∷ 4 ∷ 5 ∷ 0 ∷ []) $
+      forget ! 21 refl $ forget ! 22 refl $ forget ! 23 refl $ forget ! 24 refl $ forget ! 25 refl $ forget ! 26 refl $ forget ! 27 refl $ forget ! 28 refl $ forget ! 29 refl $ end (record { chain = taken; bytes = given; row-of = next; is = served; chain-long = taken-long; bytes-long = given-long; words-long = next-long }))))
       (λ x. move ! (2 ∷ []) $ array-closes ! 16 (x .row-of) l7 0 (x .words-long) (λ v.
-      -- [_7; the chain's last list; its token; the other tokens; answer's last list; true; _24, from 6; ..]
-      returns ! (look ! 53 refl) $ leave ! 53 53 refl refl $ leave ! 51 51 refl refl $ leave ! 49 49 refl refl $ leave ! 47 47 refl refl $ leave ! 45 45 refl refl $ leave ! 43 43 refl refl $ leave ! 41 41 refl refl $ leave ! 0 39 refl refl $ leave ! 37 37 refl refl $ leave ! 35 35 refl refl $ leave ! 33 33 refl refl $ leave ! 31 31 refl refl $ leave ! 29 29 refl refl $ leave ! 27 27 refl refl $ leave ! 25 25 refl refl $ leave ! 23 23 refl refl $
-      leave-room ! 21 21 refl refl $ leave-room ! 19 19 refl refl $ leave-room ! 17 17 refl refl $ leave-room ! 15 15 refl refl $ leave-room ! 13 13 refl refl $ leave-room ! 11 11 refl refl $ leave-room ! 9 9 refl refl $ leave-room ! 7 7 refl refl $ leave-room ! 5 5 refl refl $ free0 ! $
-      suffices ! _ (ends-at 𝓤 H A access.ended stayed (access.clauses 𝓤 H A mem run) W (y, tt) (byte .val nr) nr (x .chain, (tt, (tt, (x .bytes, tt)))) (x .chain-long, (tt, (tt, (x .bytes-long, tt))))) $
-      says ! (x .is) $
-      move ! (1 ∷ 2 ∷ []) $ join ! $ frame ! $ move ! (1 ∷ 2 ∷ []) $ fjoin ! $ nothing ! $ fjoin ! $ nothing ! $ fjoin ! $ move ! (1 ∷ 0 ∷ []) $ fjoin ! $ frame ! $
-      owned ! (byte .row) (Is (byte .row)) (byte .makes 𝓤 H A W) nr _ is-nr $ done !)))))))))))))))))))))))))))))))))))))
+      -- [_7; the chain's last list; its token; the other tokens; answer's last list; true; _0, from 6; ..; _6; _8, from 13; ..; _24; that they die]
+      returns ! (look ! 6 refl) $ move ! (span 6 7 ++ (0 ∷ span 13 18)) $ leaves W dies (holds _ ∷ holds _ ∷ holds _ ∷ holds _ ∷ holds _ ∷ holds _ ∷ holds _ ∷ holds _ ∷ holds _ ∷ holds _ ∷ holds _ ∷ holds _ ∷ holds _ ∷ holds _ ∷ holds _ ∷ holds _ ∷ []) ! $
+      suffices ! _ (ends-at 𝓤 H A access.ended stayed (access.clauses 𝓤 H A mem run) W (y, tt) (byte .val nr) nr (x .chain, (tt, (tt, (x .bytes, tt)))) (x .chain-long, (tt, (tt, (x .bytes-long, tt))))) $ says ! (x .is) $
+      move ! (1 ∷ 2 ∷ []) $ join ! $ frame ! $ move ! (1 ∷ 2 ∷ []) $ fjoin ! $ nothing ! $ fjoin ! $ nothing ! $ fjoin ! $ move ! (1 ∷ 0 ∷ []) $ fjoin ! $ frame ! $ owned ! (byte .row) (Is (byte .row)) (byte .makes 𝓤 H A W) nr _ is-nr $ done !)))))))
 
 pub max6954-access-spec : {M : Type 1} → stated.statement M
 unfolding code.routine tablesOf

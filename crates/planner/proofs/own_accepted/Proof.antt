@@ -14,7 +14,7 @@ use Rattle.planner.proofs.own_accepted.Statement.{statement}
 use Rattle.planner.proofs.own_accepted.Tie as tie
 
 abbrev Inv-loop : tie.InvT-loop
-Inv-loop i config n wanted list p₀ k at₀ a₀ p at a =
+Inv-loop i config p₀ n wanted list k at₀ a₀ p at a =
     (a ≤ k)
     × (k ≤ length list)
     × ((b : ℕ) → b < k → b * n + i < length list)
@@ -22,7 +22,7 @@ Inv-loop i config n wanted list p₀ k at₀ a₀ p at a =
     × (fromPlanes config (wantedAt wanted i) p₀ (wordsAt n list i) ≡ fromPlanes config (wantedAt wanted i) p (drop a (wordsAt n list i)))
 
 abbrev μ-loop : tie.MeasureT-loop
-μ-loop i config n wanted list p₀ k at₀ a₀ p at a = k - a
+μ-loop i config p₀ n wanted list k at₀ a₀ p at a = k - a
 
 loop-holds : tie.Need-loop-holds Inv-loop μ-loop
 loop-holds c = (omega arith, div-le-self _ _, place-in _ _ _ (c .before .before .pre .0), omega arith, refl)

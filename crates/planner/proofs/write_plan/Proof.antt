@@ -11,7 +11,7 @@ use Rattle.plans.specs.Least.{plain}
 use Rattle.plans.specs.Lists.{wantedAt}
 use Rattle.plans.proofs.Potential.{needs-le}
 use Rattle.planner.proofs.Puts.{length-put}
-use Rattle.planner.proofs.Room.{too-many, kept, drawn-anew}
+use Rattle.planner.proofs.Room.{kept-many, anew-many, kept-fits, anew-fits}
 use Rattle.planner.proofs.write_plan.Statement.{statement}
 use Rattle.planner.proofs.write_plan.Tie as tie
 
@@ -54,27 +54,28 @@ returns : tie.Need-returns
 returns c =
     let t = c .before .before .before .before .before .before in
     let a = start t .args in
-    rw (t .before .before .plain .ensures) at (c .before .before .write-words .ensures)
-    ∙ kept (a .list .now) (a .n) (a .k) (a .i) (a .held) (a .config) (q t) (omega (arith, anew t)) (omega arith)
+    kept-fits (a .list .now) (a .n) (a .k) (a .i) (a .held) (a .config) (q t) _ _ (t .before .before .plain .ensures) (anew t)
+    (c .before .before .before .before .before .if1 .taken) (c .before .before .before .before .if2 .taken) _ (c .before .before .write-words .ensures)
 
 returns-2 : tie.Need-returns-2
 returns-2 c =
     let t = c .before .before in
     let a = start t .args in
-    too-many (a .list .now) (a .n) (a .k) (a .i) (a .held) (a .config) (q t) (omega (arith, anew t))
+    kept-many (a .list .now) (a .n) (a .k) (a .i) (a .held) (a .config) (q t) _ _ (t .before .before .plain .ensures) (anew t) (c .before .if1 .taken) (c .if2 .left)
 
 returns-3 : tie.Need-returns-3
 returns-3 c =
     let t = c .before .before .before .before .before .before .before .before in
     let a = start t .args in
-    rw (c .before .before .before .cleared-if2 .ensures, anew t, c .before .before .before .before .before .clear-word .ensures) at (c .before .before .write-words2 .ensures)
-    ∙ drawn-anew (a .list .now) (a .n) (a .k) (a .i) (a .held) (a .config) (q t) (omega (arith, anew t)) (omega (arith, anew t))
+    anew-fits (a .list .now) (a .n) (a .k) (a .i) (a .held) (a .config) (q t) _ _ (t .before .before .plain .ensures) (anew t)
+    (c .before .before .before .before .before .before .before .if1 .left) (c .before .before .before .before .before .before .if3 .taken) _
+    (rw (c .before .before .before .cleared-if2 .ensures, c .before .before .before .before .before .clear-word .ensures) at (c .before .before .write-words2 .ensures))
 
 returns-4 : tie.Need-returns-4
 returns-4 c =
     let t = c .before .before in
     let a = start t .args in
-    too-many (a .list .now) (a .n) (a .k) (a .i) (a .held) (a .config) (q t) (omega (arith, anew t))
+    anew-many (a .list .now) (a .n) (a .k) (a .i) (a .held) (a .config) (q t) _ _ (t .before .before .plain .ensures) (anew t) (c .before .if1 .left) (c .if3 .left)
 
 pub write-plan-spec : {M : Type 1} → statement M
 write-plan-spec =

@@ -208,7 +208,7 @@ uint8_t max6954_add_clocks(max6954_device *chain, size_t n, size_t driver, uint3
 max6954_segment_answer max6954_segments(const max6954_device *chain, size_t n, size_t driver, size_t cathode, const uint16_t *font14,
                                         size_t font14_length, const uint16_t *font16, size_t font16_length);
 
-/* The brightness of a digit, 0 to 7 and then 8 to 15 for 0a to 7a, and what rules it. Digits d and da are of cathode d, which is dark in shutdown and
+/* The brightness of a digit, 0 to 7 and then 8 to 15 for 0a to 7a, and what rules it. Digits d and da are of cathode d, which is dark in shutdown or
    above the scan limit, unless in display test. Gives 6. */
 max6954_brightness_answer max6954_brightness(const max6954_device *chain, size_t n, size_t driver, size_t digit);
 

@@ -94,6 +94,7 @@ static reply made(const calls *by, lent *on, const call *c)
         const max6954_brightness_answer a = by->brightness(chain, c->n, c->driver, c->place);
         r.number = a.number;
         r.back[0] = a.sixteenths;
+        r.back[1] = a.ruler;
         break;
     }
     case SHOWN: {

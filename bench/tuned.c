@@ -422,15 +422,22 @@ max6954_segment_answer tuned_segments(const max6954_device *chain, size_t n, siz
     return out;
 }
 
+static inline uint8_t ruler(const max6954_registers *r)
+{
+    return r->controls.test ? MAX6954_RULED_BY_TEST : r->config.i ? MAX6954_RULED_BY_OWN : MAX6954_RULED_BY_GLOBAL;
+}
+
 max6954_brightness_answer tuned_brightness(const max6954_device *chain, size_t n, size_t driver, size_t digit)
 {
-    max6954_brightness_answer out = { number_of(chain, n, driver, digit > 15), 0 };
+    max6954_brightness_answer out = { number_of(chain, n, driver, digit > 15), 0, MAX6954_RULED_BY_NONE };
     if (out.number)
         return out;
     const max6954_registers *r = &chain[driver - 1].registers;
     const uint8_t own = (uint8_t)(r->intensities[digit / 2] >> digit % 2 * 4 & 15);
     const uint8_t x = r->config.i ? own : r->controls.global;
-    out.sixteenths = r->controls.test ? 7 : x > 14 ? 15 : (uint8_t)(x + 1);
+    const uint8_t ruled = r->controls.test ? 7 : x > 14 ? 15 : (uint8_t)(x + 1);
+    out.sixteenths = is_dark(r, digit % 8) ? 0 : ruled;
+    out.ruler = ruler(r);
     return out;
 }
 

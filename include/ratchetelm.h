@@ -25,8 +25,8 @@
 #include <stddef.h>
 #include <stdint.h>
 
-/* 0.3.0: 10,000 for each of the first number, 100 of the second, 1 of the third. */
-#define RATCHETELM_VERSION 300
+/* 0.4.0: 10,000 for each of the first number, 100 of the second, 1 of the third. */
+#define RATCHETELM_VERSION 400
 
 /* The bytes of a record as the library has it. A program can test at its start that its compiler lays it out alike: sizeof(max6954_device) is this. */
 #define MAX6954_DEVICE_SIZE 80
@@ -140,6 +140,14 @@ enum {
     MAX6954_NO_SEGMENT = 4     /* the display has no segment there */
 };
 
+/* What rules the brightness of a digit. */
+enum {
+    MAX6954_RULED_BY_NONE = 0,      /* where refused */
+    MAX6954_RULED_BY_GLOBAL = 1,    /* the global intensity register: I=0 */
+    MAX6954_RULED_BY_OWN = 2,       /* the digit's own nibble: I=1 */
+    MAX6954_RULED_BY_TEST = 3       /* display test, whatever I is */
+};
+
 /* Each answer has its call's number first. */
 typedef struct {
     uint8_t number;
@@ -148,7 +156,8 @@ typedef struct {
 
 typedef struct {
     uint8_t number;
-    uint8_t sixteenths;    /* 1 to 15; 0 where refused */
+    uint8_t sixteenths;    /* 1 to 15; 0 where the digit's cathode is dark or the call refused */
+    uint8_t ruler;         /* what rules them, or would if the cathode weren't dark; none where refused */
 } max6954_brightness_answer;
 
 typedef struct {
@@ -199,7 +208,8 @@ uint8_t max6954_add_clocks(max6954_device *chain, size_t n, size_t driver, uint3
 max6954_segment_answer max6954_segments(const max6954_device *chain, size_t n, size_t driver, size_t cathode, const uint16_t *font14,
                                         size_t font14_length, const uint16_t *font16, size_t font16_length);
 
-/* The brightness of a digit, 0 to 7 and then 8 to 15 for 0a to 7a, dark or not. Gives 6. */
+/* The brightness of a digit, 0 to 7 and then 8 to 15 for 0a to 7a, and what rules it. Digits d and da are of cathode d, which is dark in shutdown or
+   above the scan limit, unless in display test. Gives 6. */
 max6954_brightness_answer max6954_brightness(const max6954_device *chain, size_t n, size_t driver, size_t digit);
 
 /* The plane that a driver shows. */

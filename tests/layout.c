@@ -239,8 +239,10 @@ static void answers(void)
     holds("served", "segment answer", s.number == 0 && sizeof s.pins == 19 && memcmp(s.pins, pins, 19) == 0);
     holds("refused", "segment answer", s4.number == 2 && memcmp(s4.pins, none, 19) == 0);
     const max6954_brightness_answer b = max6954_brightness(chain, DRIVERS, DRIVER, 0), b4 = max6954_brightness(chain, DRIVERS, 4, 0);
-    holds("served", "brightness answer", b.number == 0 && b.sixteenths == 10);
-    holds("refused", "brightness answer", b4.number == 2 && b4.sixteenths == 0);
+    holds("three bytes", "brightness answer",
+          sizeof b == 3 && offsetof(max6954_brightness_answer, sixteenths) == 1 && offsetof(max6954_brightness_answer, ruler) == 2);
+    holds("served", "brightness answer", b.number == 0 && b.sixteenths == 10 && b.ruler == MAX6954_RULED_BY_GLOBAL);
+    holds("refused", "brightness answer", b4.number == 2 && b4.sixteenths == 0 && b4.ruler == MAX6954_RULED_BY_NONE);
     const max6954_shown_answer p = max6954_shown(chain, DRIVERS, DRIVER), p4 = max6954_shown(chain, DRIVERS, 4);
     holds("served", "shown answer", p.number == 0 && p.plane == 1);
     holds("refused", "shown answer", p4.number == 2 && p4.plane == 0);

@@ -1,4 +1,4 @@
-/* The exported calls from C: bench examples on a chain, each number with nothing changed, what a driver shows, answer marks, and plans. */
+/* The exported calls from C: bench examples on a chain, each number with nothing changed, what a driver shows, brightness, answer marks, and plans. */
 #include <stddef.h>
 #include <stdio.h>
 #include <string.h>
@@ -112,7 +112,7 @@ static void refusals(void)
     refused("7: an unsound record, in a part", 7, max6954_plane_shown(chain, 3, 1, plane, 16, plane, 16, 0, 15).number);
     refused("7: an unsound record, in an access", 7, max6954_access(chain, 3, 48, bytes, 6, answer, 6));
     chain[0].answer_mark = 1;
-    int zero = max6954_brightness(chain, 3, 1, 0).sixteenths == 0 && max6954_shown(chain, 3, 1).plane == 0;
+    int zero = max6954_shown(chain, 3, 1).plane == 0;
     zero = zero && max6954_interrupt(chain, 3, 1).raised == 0 && max6954_answer_mark(chain, 3, 1).mark == 0;
     holds("a refused answer holds 0 and drives no pin", zero && undriven(max6954_segments(chain, 3, 1, 0, font, 128, font, 128)));
     fresh();
@@ -175,8 +175,6 @@ static void questions(void)
     chain[1].fitted = 0;
     types = types && sent(2, 32, "\x0C\x00\x00\x00") == 0 && max6954_segments(chain, 2, 2, 0, lit, 128, font, 128).pins[2] == MAX6954_UNLIT;
     holds("segments: the first table is for 14 segments, the second for 16", types && max6954_segments(chain, 2, 2, 0, font, 128, lit, 128).pins[2] == MAX6954_LIT);
-    max6954_brightness_answer b = max6954_brightness(chain, 2, 2, 15);
-    holds("brightness: 1 of 16 at power-up", b.number == 0 && b.sixteenths == 1);
     holds("the plane shown is P0 before 2,000,000 clocks", part_of(2, 1, 2, 0, 0));
     int later = max6954_add_clocks(chain, 2, 2, 2000000) == 0 && max6954_shown(chain, 2, 2).plane == 1;
     holds("and P1 after them", later && part_of(2, 1, 2, 0, 1));
@@ -190,6 +188,45 @@ static void questions(void)
     holds("a read's answer comes out in the next access", read && sent(2, 32, "\x00\x00\x00\x00") == 0 && answered("\x88\x01\x00\x00", 4));
     int pins_given = max6954_set_pins(chain, 2, 2, 31) == 0;
     holds("pin levels replace the driver's own", pins_given && chain[1].registers.pins == 31 && chain[0].registers.pins == 0);
+}
+
+/* Whether driver 2 gives this brightness, served, to a digit and to its "a" digit. */
+static int bright(size_t digit, int sixteenths, int of_a, int ruler)
+{
+    const max6954_brightness_answer b = max6954_brightness(chain, 2, 2, digit), a = max6954_brightness(chain, 2, 2, digit + 8);
+    return b.number == 0 && a.number == 0 && b.sixteenths == sixteenths && a.sixteenths == of_a && b.ruler == ruler && a.ruler == ruler;
+}
+
+/* Whether a brightness is refused with this number, holds 0 and names none. */
+static int not_bright(int number, size_t n, size_t driver, size_t digit)
+{
+    const max6954_brightness_answer b = max6954_brightness(chain, n, driver, digit);
+    return b.number == number && b.sixteenths == 0 && b.ruler == MAX6954_RULED_BY_NONE;
+}
+
+static void brightness(void)
+{
+    enum { GLOBAL = MAX6954_RULED_BY_GLOBAL, OWN = MAX6954_RULED_BY_OWN, TEST = MAX6954_RULED_BY_TEST };
+    fresh();
+    holds("brightness: 0 in shutdown, which the global register would rule", bright(0, 0, 0, GLOBAL) && bright(7, 0, 0, GLOBAL));
+    holds("or the digit's own nibble where I=1", sent(2, 32, "\x04\x40\x00\x00") == 0 && bright(0, 0, 0, OWN) && bright(7, 0, 0, OWN));
+    int test = sent(2, 32, "\x07\x01\x00\x00") == 0 && bright(0, 7, 7, TEST);
+    test = test && sent(2, 32, "\x04\x00\x00\x00") == 0 && bright(7, 7, 7, TEST);
+    holds("display test rules in shutdown, whatever I is", test && sent(2, 32, "\x07\x00\x00\x00") == 0);
+    int global = sent(2, 32, "\x04\x01\x00\x00") == 0 && bright(0, 1, 1, GLOBAL);
+    global = global && sent(2, 32, "\x02\x0E\x00\x00") == 0 && bright(3, 15, 15, GLOBAL);
+    holds("global nibbles 0, E and F are 1, 15 and 15", global && sent(2, 32, "\x02\x0F\x00\x00") == 0 && bright(7, 15, 15, GLOBAL));
+    /* digits 0 and 1 have nibbles 0 and E, 0a and 1a have F and 1 */
+    int own = sent(2, 32, "\x04\x41\x00\x00") == 0 && sent(2, 32, "\x10\xE0\x00\x00") == 0 && sent(2, 32, "\x14\x1F\x00\x00") == 0;
+    holds("and so are a digit's own", own && bright(0, 1, 15, OWN) && bright(1, 15, 2, OWN));
+    int limited = sent(2, 32, "\x03\x00\x00\x00") == 0 && bright(0, 1, 15, OWN) && bright(1, 0, 0, OWN);
+    chain[1].fitted = 0;
+    limited = limited && bright(0, 1, 15, OWN) && bright(1, 0, 0, OWN);
+    holds("above the scan limit both digits of a cathode have 0, in a pair and in 16 segments", limited);
+    holds("and 7 in display test", sent(2, 32, "\x07\x01\x00\x00") == 0 && bright(1, 7, 7, TEST));
+    int none = not_bright(1, 0, 1, 0) && not_bright(2, 2, 3, 0) && not_bright(6, 2, 2, 16);
+    chain[0].registers.controls.limit = 8;
+    holds("a refused one holds 0 and names none", none && not_bright(7, 2, 2, 0));
 }
 
 /* Whether the answer marks of two drivers are these. */
@@ -390,6 +427,7 @@ int main(void)
     refusals();
     words();
     questions();
+    brightness();
     answer_marks();
     plans();
     refused_plans();

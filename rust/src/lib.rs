@@ -88,6 +88,31 @@ impl Pin {
     ];
 }
 
+/// What rules the brightness of a digit; as a number it is the one that C has.
+#[derive(Clone, Copy, Debug, PartialEq, Eq)]
+pub enum Ruler {
+    /// The global intensity register: I=0.
+    Global = 1,
+    /// The digit's own nibble: I=1.
+    Own = 2,
+    /// Display test, whatever I is.
+    Test = 3,
+}
+
+impl Ruler {
+    // From 1 on: a served answer names one.
+    const BY_NUMBER: [Ruler; 3] = [Ruler::Global, Ruler::Own, Ruler::Test];
+}
+
+/// The brightness of a digit.
+#[derive(Clone, Copy, Debug, PartialEq, Eq)]
+pub struct Brightness {
+    /// 1 to 15; 0 where the digit's cathode is dark.
+    pub sixteenths: u8,
+    /// What rules them, or would if the cathode weren't dark.
+    pub ruler: Ruler,
+}
+
 /// A digit plane; as a number it is the one that C has.
 #[derive(Clone, Copy, Debug, PartialEq, Eq)]
 pub enum Plane {
@@ -199,12 +224,15 @@ pub fn segments(
         .map(|number| Pin::BY_NUMBER[usize::from(number)]))
 }
 
-/// The brightness of a digit in sixteenths: digits 0 to 7, then 8 to 15 for 0a to 7a.
-pub fn brightness(chain: &[Device], driver: usize, digit: usize) -> Result<u8, Refusal> {
+/// The brightness of a digit and what rules it: digits 0 to 7, then 8 to 15 for 0a to 7a. Digits d and da are of cathode d.
+pub fn brightness(chain: &[Device], driver: usize, digit: usize) -> Result<Brightness, Refusal> {
     // SAFETY: the pointer has the length of its slice, and nothing is written.
     let answer = unsafe { sys::max6954_brightness(chain.as_ptr(), chain.len(), driver, digit) };
     Refusal::of(answer.number)?;
-    Ok(answer.sixteenths)
+    Ok(Brightness {
+        sixteenths: answer.sixteenths,
+        ruler: Ruler::BY_NUMBER[usize::from(answer.ruler) - 1],
+    })
 }
 
 /// The plane that a driver shows.

@@ -15,6 +15,7 @@ pub struct SegmentAnswer {
 pub struct BrightnessAnswer {
     pub number: u8,
     pub sixteenths: u8,
+    pub ruler: u8,
 }
 
 #[repr(C)]

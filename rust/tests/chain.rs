@@ -1,8 +1,8 @@
 //! The library through the safe calls: each call served and refused, and every field where its name is.
 use ratchetelm::{
     access, add_clocks, answer_mark, brightness, interrupt, plan, plan_bytes, plan_check, plane,
-    scan, segments, set_pins, shown, Config, Controls, Device, Group, Pin, Plane, Refusal,
-    MOST_ACCESSES, WANTED_SIZE,
+    scan, segments, set_pins, shown, Brightness, Config, Controls, Device, Group, Pin, Plane,
+    Refusal, Ruler, MOST_ACCESSES, WANTED_SIZE,
 };
 use std::mem::size_of;
 
@@ -186,8 +186,7 @@ fn a_cathode_shows_its_pins() {
 
 #[test]
 fn questions_are_answered() {
-    let mut chain = chain_after(&[0x0209, 0x0408, 0x0620, 0x0801]);
-    assert_eq!(brightness(&chain, 2, 15), Ok(10));
+    let mut chain = chain_after(&[0x0408, 0x0620, 0x0801]);
     assert_eq!(shown(&chain, 2), Ok(Plane::P0));
     assert_eq!(add_clocks(&mut chain, 2, 2_000_000), Ok(()));
     assert_eq!(shown(&chain, 2), Ok(Plane::P1));
@@ -195,6 +194,36 @@ fn questions_are_answered() {
     assert_eq!(interrupt(&chain, 2), Ok(false));
     assert_eq!(scan(&mut chain, 2, [1, 0, 0, 0]), Ok(()));
     assert_eq!(interrupt(&chain, 2), Ok(true));
+}
+
+#[test]
+fn brightness_names_its_ruler() {
+    // Words to driver 2 after global intensity E and own nibbles 0 to F; a digit, its sixteenths and what rules them.
+    let rows = [
+        (&[][..], 0, 0, Ruler::Global),
+        (&[0x0440], 0, 0, Ruler::Own),
+        (&[0x0701], 0, 7, Ruler::Test),
+        (&[0x0440, 0x0701], 15, 7, Ruler::Test),
+        (&[0x0401], 0, 15, Ruler::Global),
+        (&[0x0441], 0, 1, Ruler::Own),
+        (&[0x0441], 9, 10, Ruler::Own),
+        (&[0x0441], 14, 15, Ruler::Own),
+        (&[0x0441], 15, 15, Ruler::Own),
+        (&[0x0441, 0x0303], 3, 4, Ruler::Own),
+        (&[0x0441, 0x0303], 4, 0, Ruler::Own),
+        (&[0x0441, 0x0303], 11, 12, Ruler::Own),
+        (&[0x0441, 0x0303], 12, 0, Ruler::Own),
+    ];
+    for (words, digit, sixteenths, ruler) in rows {
+        let mut all = vec![0x020E];
+        all.extend((0..8).map(|k| 0x1010 + 0x122 * k));
+        all.extend(words);
+        assert_eq!(
+            brightness(&chain_after(&all), 2, digit),
+            Ok(Brightness { sixteenths, ruler }),
+            "digit {digit} after {words:04X?}"
+        );
+    }
 }
 
 #[test]
@@ -402,6 +431,19 @@ fn the_header_has_this_version_and_these_sizes() {
     assert_eq!(defined("MAX6954_DEVICE_SIZE"), Some(size_of::<Device>()));
     assert_eq!(defined("MAX6954_WANTED_SIZE"), Some(WANTED_SIZE));
     assert_eq!(defined("MAX6954_MOST_ACCESSES"), Some(MOST_ACCESSES));
+}
+
+#[test]
+fn rulers_have_the_numbers_of_the_header() {
+    let rulers = [
+        ("GLOBAL", Ruler::Global),
+        ("OWN", Ruler::Own),
+        ("TEST", Ruler::Test),
+    ];
+    for (name, ruler) in rulers {
+        let words = format!("MAX6954_RULED_BY_{name} = {}", ruler as u8);
+        assert!(HEADER.contains(&words), "{words}");
+    }
 }
 
 #[test]

@@ -10,6 +10,13 @@ struct Segments {
 }
 
 #[repr(C)]
+struct Brightness {
+    number: u8,
+    sixteenths: u8,
+    ruler: u8,
+}
+
+#[repr(C)]
 struct One {
     number: u8,
     value: u8,
@@ -35,7 +42,12 @@ extern "C" {
         font16: *const u16,
         font16_length: usize,
     ) -> Segments;
-    fn max6954_brightness(chain: *const Device, n: usize, driver: usize, digit: usize) -> One;
+    fn max6954_brightness(
+        chain: *const Device,
+        n: usize,
+        driver: usize,
+        digit: usize,
+    ) -> Brightness;
     fn max6954_shown(chain: *const Device, n: usize, driver: usize) -> One;
     fn max6954_interrupt(chain: *const Device, n: usize, driver: usize) -> One;
     fn max6954_answer_mark(chain: *const Device, n: usize, driver: usize) -> One;
@@ -91,7 +103,11 @@ pub fn segments(
 
 pub fn brightness(chain: &[Device], driver: usize, digit: usize) -> Reply {
     // SAFETY: the pointer has the length of its slice, and nothing is written.
-    unsafe { max6954_brightness(chain.as_ptr(), chain.len(), driver, digit) }.into()
+    let answer = unsafe { max6954_brightness(chain.as_ptr(), chain.len(), driver, digit) };
+    Reply {
+        number: answer.number,
+        back: vec![answer.sixteenths, answer.ruler],
+    }
 }
 
 pub fn shown(chain: &[Device], driver: usize) -> Reply {

@@ -36,7 +36,8 @@ fn question(chain: &[Device], call: &Call) -> Reply {
             exported::segments(chain, *driver, *cathode, font14, font16),
         ),
         Call::Brightness { driver, digit } => agreed(
-            ratchetelm::brightness(chain, *driver, *digit).map(|sixteenths| vec![sixteenths]),
+            ratchetelm::brightness(chain, *driver, *digit)
+                .map(|answer| vec![answer.sixteenths, answer.ruler as u8]),
             exported::brightness(chain, *driver, *digit),
         ),
         Call::Shown { driver } => agreed(

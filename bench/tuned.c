@@ -436,7 +436,8 @@ max6954_brightness_answer tuned_brightness(const max6954_device *chain, size_t n
     const uint8_t own = (uint8_t)(r->intensities[digit / 2] >> digit % 2 * 4 & 15);
     const uint8_t x = r->config.i ? own : r->controls.global;
     const uint8_t ruled = r->controls.test ? 7 : x > 14 ? 15 : (uint8_t)(x + 1);
-    out.sixteenths = is_dark(r, digit % 8) ? 0 : ruled;
+    /* number and sixteenths are stored as a word, since the return reads them as one */
+    store16(&out, (uint16_t)((is_dark(r, digit % 8) ? 0 : ruled) << 8));
     out.ruler = ruler(r);
     return out;
 }

@@ -55,27 +55,27 @@ returns c =
     let t = c .before .before .before .before .before .before in
     let a = start t .args in
     kept-fits (a .list .now) (a .n) (a .k) (a .i) (a .held) (a .config) (q t) _ _ (t .before .before .plain .ensures) (anew t)
-    (c .before .before .before .before .before .if1 .taken) (c .before .before .before .before .if2 .taken) _ (c .before .before .write-words .ensures)
+    (omega arith) (c .before .before .before .before .if2 .taken) _ (c .before .before .write-words .ensures)
 
 returns-2 : tie.Need-returns-2
 returns-2 c =
     let t = c .before .before in
     let a = start t .args in
-    kept-many (a .list .now) (a .n) (a .k) (a .i) (a .held) (a .config) (q t) _ _ (t .before .before .plain .ensures) (anew t) (c .before .if1 .taken) (c .if2 .left)
+    kept-many (a .list .now) (a .n) (a .k) (a .i) (a .held) (a .config) (q t) _ _ (t .before .before .plain .ensures) (anew t) (omega arith) (c .if2 .left)
 
 returns-3 : tie.Need-returns-3
 returns-3 c =
     let t = c .before .before .before .before .before .before .before .before in
     let a = start t .args in
     anew-fits (a .list .now) (a .n) (a .k) (a .i) (a .held) (a .config) (q t) _ _ (t .before .before .plain .ensures) (anew t)
-    (c .before .before .before .before .before .before .before .if1 .left) (c .before .before .before .before .before .before .if3 .taken) _
+    (omega arith) (c .before .before .before .before .before .before .if3 .taken) _
     (rw (c .before .before .before .cleared-if2 .ensures, c .before .before .before .before .before .clear-word .ensures) at (c .before .before .write-words2 .ensures))
 
 returns-4 : tie.Need-returns-4
 returns-4 c =
     let t = c .before .before in
     let a = start t .args in
-    anew-many (a .list .now) (a .n) (a .k) (a .i) (a .held) (a .config) (q t) _ _ (t .before .before .plain .ensures) (anew t) (c .before .if1 .left) (c .if3 .left)
+    anew-many (a .list .now) (a .n) (a .k) (a .i) (a .held) (a .config) (q t) _ _ (t .before .before .plain .ensures) (anew t) (omega arith) (c .if3 .left)
 
 pub write-plan-spec : {M : Type 1} → statement M
 write-plan-spec =

@@ -20,10 +20,11 @@ own-accepted-requires c κs =
     let w = ltb-true (s .i) (length (s .wanted .now) / 32) (and-right (ltb (s .i) (s .n) && ltb (s .n) 17) _ t) in
     (i, omega arith, omega arith)
 
+returns : tie.Need-returns
+returns c = rw (← and-assoc, c .before .if1 .taken, words-planes) (c .own-accepted .ensures)
+
+returns-2 : tie.Need-returns-2
+returns-2 c = rw (← and-assoc, c .if1 .left)
+
 pub accepts-spec : {M : Type 1} → statement M
-accepts-spec =
-    tie.close
-    (tie.spec
-    own-accepted-requires
-    (λ c. rw (← and-assoc, c .before .if1 .taken, words-planes) (c .own-accepted .ensures))
-    (λ c. rw (← and-assoc, c .if1 .left)))
+accepts-spec = tie.close (tie.spec own-accepted-requires returns returns-2)

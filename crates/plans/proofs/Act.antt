@@ -38,7 +38,7 @@ digit-word w r e low high =
     rw (a, ne-eqb (w / 256 % 128 / 8) 1 (λ z. omega arith), le-ltb (w / 256 % 128) 8 (omega arith), b, c)
 
 -- the word of a configuration write
-config-word : (w : ℕ) → w / 256 ≡ 4 → wordOf w ≡ Write Configuration (w % 256)
+pub config-word : (w : ℕ) → w / 256 ≡ 4 → wordOf w ≡ Write Configuration (w % 256)
 config-word w e =
     let a : w / 2 ^ 15 % 2 ≡ 0 = omega arith in
     let b : w / 256 % 128 ≡ 4 = omega arith in
@@ -78,15 +78,15 @@ configured-kept x v h = rw (config-kept (x .config) v h, blink-kept (x .config) 
 
 -- what the registers become
 module _ (d : Device) where
-  Becomes : ℕ → Type 0
+  abbrev pub Becomes : ℕ → Type 0
   Becomes w = taken d w .registers ≡ withPlanes (d .registers) (acted (d .registers .planes) (actOf w))
 
-  by-none : (w : ℕ) → w ≡ 0 → Becomes w
-  unfolding Becomes taken
+  pub by-none : (w : ℕ) → w ≡ 0 → Becomes w
+  unfolding taken
   by-none w e = rw e
 
-  by-digit : (w : ℕ) → digitWrite w ≡ true → Becomes w
-  unfolding Becomes taken
+  pub by-digit : (w : ℕ) → digitWrite w ≡ true → Becomes w
+  unfolding taken
   by-digit w h =
       or-cases (eqb (w / 4096) 2 || eqb (w / 4096) 4) (eqb (w / 4096) 6) h
       (λ g. or-cases (eqb (w / 4096) 2) (eqb (w / 4096) 4) g
@@ -95,14 +95,13 @@ module _ (d : Device) where
       (λ e. let q = eqb-true _ _ e in rw (digit-word w 6 q (omega arith) (omega arith), q))
 
   by-config : (w : ℕ) → w / 256 ≡ 4 → keeps (d .registers .config) (w % 256) ≡ true → Becomes w
-  unfolding Becomes taken
+  unfolding taken
   by-config w e h =
       let q : w / 4096 ≡ 0 = omega arith in
       rw (config-word w e, q, e) (configured-kept (d .registers) (w % 256) h)
 
 -- an allowed word changes planes alone
 allowed-registers : (d : Device) (w : ℕ) → allowed d w ≡ true → taken d w .registers ≡ withPlanes (d .registers) (acted (d .registers .planes) (actOf w))
-unfolding Becomes
 allowed-registers d w h =
     or-cases (eqb w 0 || digitWrite w) (eqb (w / 256) 4 && keeps (d .registers .config) (w % 256)) h
     (λ g. or-cases (eqb w 0) (digitWrite w) g (λ e. by-none d w (eqb-true w 0 e)) (by-digit d w))

@@ -1,0 +1,7 @@
+-- `laws::chain_laws` meets its contract. Assumes nothing.
+use Rattle.laws.proofs.OnChain.{chain-laws}
+use Rattle.laws.proofs.chain_laws.Statement.{statement}
+use Rattle.laws.proofs.chain_laws.Tie as tie
+
+pub chain-laws-spec : {M : Type 1} → statement M
+chain-laws-spec = tie.close (tie.spec (λ c. chain-laws))

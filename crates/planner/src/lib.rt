@@ -339,21 +339,23 @@ fn allowed(c: Config, w: u16) -> bool
 }
 
 // The planes after an allowed word.
-fn acted(p: Planes, w: u16) -> Planes
+fn acted(mut p: Planes, w: u16) -> Planes
     ensures { λ r. ⌜ r ≡ actedBy p (actOf w) ⌝ }
 {
     let row = w / 4096;
-    let k = (w / 256 % 16) as u8;
+    let k = (w / 256 % 16) as usize;
     let v = (w % 256) as u8;
     if row == 2 {
-        p.written(Plane::P0, k, v)
+        p.p0[k] = v;
     } else if row == 4 {
-        p.written(Plane::P1, k, v)
+        p.p1[k] = v;
     } else if row == 6 {
-        p.both_written(k, v)
-    } else {
-        p.cleared_if((w / 256 == 4) & (v / 32 % 2 == 1))
+        p.p0[k] = v;
+        p.p1[k] = v;
+    } else if (w / 256 == 4) & (v / 32 % 2 == 1) {
+        p = Planes::CLEARED;
     }
+    p
 }
 
 // Whether a driver with this configuration and these planes, at place i of n, accepts its words of a list.

@@ -1,5 +1,5 @@
 // The planner by value: the words that one driver needs for its wanted contents, its part of a list of accesses, and whether it accepts its part of one.
-ghost use Prim.Native.Nat.{_+_, _*_, _-_, _/_, _%_, _<_, _≤_, max};
+ghost use Prim.Native.Nat.{_+_, _*_, _%_, _<_, _≤_, max};
 ghost use mathlib.Core.Bool.{_&&_};
 ghost use mathlib.Core.List.{[], _∷_, _++_};
 ghost use mathlib.Core.Path.{_≡_};
@@ -177,20 +177,10 @@ fn write_digit(list: &mut [u16], n: usize, at: usize, k: usize, a: u8, b: u8, x:
     ensures { λ r. ⌜ (now (list .exit) ≡ put (now (list .entry)) n at (digitWords k a b x y)) × (r ≡ at + needOf a b x y * n) ⌝ }
 {
     let both = (x == y) & (b != y);
-    let next = write_if(
-        list,
-        n,
-        at,
-        a != x,
-        word(8192 + 16384 * (both as u16), k, x),
-    );
-    write_if(
-        list,
-        n,
-        next,
-        (b != y) & !(both & (a != x)),
-        word(16384, k, y),
-    )
+    let first = word(8192 + 16384 * (both as u16), k, x);
+    let second = word(16384, k, y);
+    let next = write_if(list, n, at, a != x, first);
+    write_if(list, n, next, (b != y) & !(both & (a != x)), second)
 }
 
 // The words of all digits, put into the list from a place on. The place after them.

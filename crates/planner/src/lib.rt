@@ -1,5 +1,5 @@
 // The planner by value: the words that one driver needs for its wanted contents, its part of a list of accesses, and whether it accepts its part of one.
-ghost use Prim.Native.Nat.{_+_, _*_, _-_, _/_, _%_, _<_, _≤_, max};
+ghost use Prim.Native.Nat.{_+_, _*_, _%_, _<_, _≤_, max};
 ghost use mathlib.Core.Bool.{_&&_};
 ghost use mathlib.Core.List.{[], _∷_, _++_};
 ghost use mathlib.Core.Path.{_≡_};
@@ -177,20 +177,10 @@ fn write_digit(list: &mut [u16], n: usize, at: usize, k: usize, a: u8, b: u8, x:
     ensures { λ r. ⌜ (now (list .exit) ≡ put (now (list .entry)) n at (digitWords k a b x y)) × (r ≡ at + needOf a b x y * n) ⌝ }
 {
     let both = (x == y) & (b != y);
-    let next = write_if(
-        list,
-        n,
-        at,
-        a != x,
-        word(8192 + 16384 * (both as u16), k, x),
-    );
-    write_if(
-        list,
-        n,
-        next,
-        (b != y) & !(both & (a != x)),
-        word(16384, k, y),
-    )
+    let first = word(8192 + 16384 * (both as u16), k, x);
+    let second = word(16384, k, y);
+    let next = write_if(list, n, at, a != x, first);
+    write_if(list, n, next, (b != y) & !(both & (a != x)), second)
 }
 
 // The words of all digits, put into the list from a place on. The place after them.
@@ -339,21 +329,23 @@ fn allowed(c: Config, w: u16) -> bool
 }
 
 // The planes after an allowed word.
-fn acted(p: Planes, w: u16) -> Planes
+fn acted(mut p: Planes, w: u16) -> Planes
     ensures { λ r. ⌜ r ≡ actedBy p (actOf w) ⌝ }
 {
     let row = w / 4096;
-    let k = (w / 256 % 16) as u8;
+    let k = (w / 256 % 16) as usize;
     let v = (w % 256) as u8;
     if row == 2 {
-        p.written(Plane::P0, k, v)
+        p.p0[k] = v;
     } else if row == 4 {
-        p.written(Plane::P1, k, v)
+        p.p1[k] = v;
     } else if row == 6 {
-        p.both_written(k, v)
-    } else {
-        p.cleared_if((w / 256 == 4) & (v / 32 % 2 == 1))
+        p.p0[k] = v;
+        p.p1[k] = v;
+    } else if (w / 256 == 4) & (v / 32 % 2 == 1) {
+        p = Planes::CLEARED;
     }
+    p
 }
 
 // Whether a driver with this configuration and these planes, at place i of n, accepts its words of a list.

@@ -140,3 +140,7 @@ module _ {M : Type 1} {𝓤 : URA M} {H : Heap 𝓤} {A : Atoms 𝓤} {K : Type 
 
     pub in-mark : K → Part K W (Cell 𝓤 q b o c f e g w h t y z s m) q (tyInt w8) b (o + 79) m (λ u. Cell 𝓤 q b o c f e g w h t y z s u)
     in-mark k = sub k 3 refl (whole k)
+
+  -- the shift word of a record in a local
+  pub local-shift : K → {q : Share} {r s t m : Val} → Part K W (‵ (fat q (device .ty) b o (vstruct (ofList (r ∷ s ∷ t ∷ m ∷ []))))) q (tyInt w16) b (o + 76) s (λ u. ‵ (fat q (device .ty) b o (vstruct (ofList (r ∷ u ∷ t ∷ m ∷ [])))))
+  local-shift k = sub k 1 refl (whole k)

@@ -109,8 +109,8 @@ is-stored d k y z s m hy hz hs hm is =
     LL.owes D.the-type D′.the-laws e (g, ((refl, hs), (a .1 .1 .0, ((refl, hm), tt))))
 
 -- ---- a record in memory, by the machine values of its fields: y and z are its planes, s its shift word and m its answer mark
-abbrev pub Cell : {M : Type 1} (𝓤 : URA M) → Share → ℕ → ℕ → (c f e g w l t y z s m : Val) → Item 𝓤
-Cell 𝓤 q b o c f e g w l t y z s m = ‵ (fat q (raw (device .ty)) b o (vstruct (ofList (vstruct (ofList (c ∷ f ∷ e ∷ g ∷ vstruct (ofList (y ∷ z ∷ [])) ∷ w ∷ l ∷ [])) ∷ s ∷ t ∷ m ∷ []))))
+abbrev pub Cell : {M : Type 1} (𝓤 : URA M) → Share → ℕ → ℕ → (c f e g w h t y z s m : Val) → Item 𝓤
+Cell 𝓤 q b o c f e g w h t y z s m = ‵ (fat q (raw (device .ty)) b o (vstruct (ofList (vstruct (ofList (c ∷ f ∷ e ∷ g ∷ vstruct (ofList (y ∷ z ∷ [])) ∷ w ∷ h ∷ [])) ∷ s ∷ t ∷ m ∷ []))))
 
 module _ {M : Type 1} {𝓤 : URA M} {H : Heap 𝓤} {A : Atoms 𝓤} {K : Type 0} {W : Given 𝓤 H A} {b o : ℕ} where
   -- where the four lie
@@ -128,15 +128,19 @@ module _ {M : Type 1} {𝓤 : URA M} {H : Heap 𝓤} {A : Atoms 𝓤} {K : Type 
     at-mark t = fld t refl (stop t)
 
   -- their cells within the record's
-  module _ {q : Share} {c f e g w l t y z s m : Val} where
-    pub in-p0 : K → Part K W (Cell 𝓤 q b o c f e g w l t y z s m) q (tyArray (tyInt w8) 16) b (o + 0 + 36 + 0) y (λ u. Cell 𝓤 q b o c f e g w l t u z s m)
+  module _ {q : Share} {c f e g w h t y z s m : Val} where
+    pub in-p0 : K → Part K W (Cell 𝓤 q b o c f e g w h t y z s m) q (tyArray (tyInt w8) 16) b (o + 0 + 36 + 0) y (λ u. Cell 𝓤 q b o c f e g w h t u z s m)
     in-p0 k = sub k 0 refl (sub k 4 refl (sub k 0 refl (whole k)))
 
-    pub in-p1 : K → Part K W (Cell 𝓤 q b o c f e g w l t y z s m) q (tyArray (tyInt w8) 16) b (o + 0 + 36 + 16) z (λ u. Cell 𝓤 q b o c f e g w l t y u s m)
+    pub in-p1 : K → Part K W (Cell 𝓤 q b o c f e g w h t y z s m) q (tyArray (tyInt w8) 16) b (o + 0 + 36 + 16) z (λ u. Cell 𝓤 q b o c f e g w h t y u s m)
     in-p1 k = sub k 1 refl (sub k 4 refl (sub k 0 refl (whole k)))
 
-    pub in-shift : K → Part K W (Cell 𝓤 q b o c f e g w l t y z s m) q (tyInt w16) b (o + 76) s (λ u. Cell 𝓤 q b o c f e g w l t y z u m)
+    pub in-shift : K → Part K W (Cell 𝓤 q b o c f e g w h t y z s m) q (tyInt w16) b (o + 76) s (λ u. Cell 𝓤 q b o c f e g w h t y z u m)
     in-shift k = sub k 1 refl (whole k)
 
-    pub in-mark : K → Part K W (Cell 𝓤 q b o c f e g w l t y z s m) q (tyInt w8) b (o + 79) m (λ u. Cell 𝓤 q b o c f e g w l t y z s u)
+    pub in-mark : K → Part K W (Cell 𝓤 q b o c f e g w h t y z s m) q (tyInt w8) b (o + 79) m (λ u. Cell 𝓤 q b o c f e g w h t y z s u)
     in-mark k = sub k 3 refl (whole k)
+
+  -- the shift word of a record in a local
+  pub local-shift : K → {q : Share} {r s t m : Val} → Part K W (‵ (fat q (device .ty) b o (vstruct (ofList (r ∷ s ∷ t ∷ m ∷ []))))) q (tyInt w16) b (o + 76) s (λ u. ‵ (fat q (device .ty) b o (vstruct (ofList (r ∷ u ∷ t ∷ m ∷ [])))))
+  local-shift k = sub k 1 refl (whole k)

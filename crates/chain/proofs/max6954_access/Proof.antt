@@ -41,7 +41,7 @@ use Rattle.pass.proofs.access_by_arguments.Symbol as early-def
 use Rattle.pass.proofs.access_by_arguments.Met as early-thm
 use Rattle.lent.proofs.Records.{size, byte, half, device}
 use Rattle.lent.proofs.Walk.{Walk, LentShared, lends-shared, shared-back, calls-value, calls-fn, lands-known, forks-to, proves}
-use Rattle.lent.proofs.Locals.{span, values, starts, leaves}
+use Rattle.lent.proofs.Locals.{span, values, starts, leaves, var, sets, resets, lands-in, lands-over, count, target}
 use Rattle.lent.proofs.Arrays.{S, array-opens, array-closes, row-lent, row-back, gives-up}
 use Rattle.chain.proofs.Asks.{not-zero, is-zero}
 use Rattle.lent.proofs.shift_words as looked
@@ -199,37 +199,37 @@ module _ {M : Type 1} (𝓤 : URA M) (H : Heap 𝓤) (A : Atoms 𝓤) (W : Given
       → Room R n → Is (size .row) clocks (size .val clocks ∷ []) → Room (byte .row) (length (sent .now)) → Room (byte .row) (length (answer .now)) → Walk 𝓤 H A access.ended stayed (access.clauses 𝓤 H A mem run) 𝓣 code.function y tt
   walk 𝓣 known-early known-looked known-shift known-taking room is₁ room₂ room₃ =
       qed W ((‵ (flft κ q) ⊛ ‵ (flft κ₁ q₁) ⊛ ‵ (flft κ₂ q₂) ⊛ ‵ ftrue) ∷ ‵ (owns (MutSlice (named 0) κ R ∷ size .row ∷ ShrSlice (named 1) κ₁ (byte .row) ∷ MutSlice (named 2) κ₂ (byte .row) ∷ []) (y .3) (y .4)) ∷ []) ∵ enter ! (𝓣 .C) (𝓣 .Λ) code.function _ _ $
-      starts W locals ! (λ l0 l1 l2 l3 l4 l5 l6 l7 l8 l9 l10 l11 l12 l13 l14 l15 l16 l17 l18 l19 l20 l21 l22 l23 l24 D dies. params1 ! $
+      starts W locals ! (λ l D dies. params1 ! $
       pass1 ! (init ! 1 refl (tt, (tt, (record { fits = room .0 }, tt)))) $ pass1 ! (init ! 2 refl (size .typed 𝓤 H A W clocks is₁)) $ pass1 ! (init ! 3 refl (tt, (tt, (record { fits = room₂ .0 }, tt)))) $ pass1 ! (init ! 4 refl (tt, (tt, (record { fits = room₃ .0 }, tt)))) $ pass0 ! $
       -- [_0; _1; ..; _24; that they die; the tokens; what the parameters own]
-      assigns ! (of-opd ! (load ! (from ! (fld ! refl (stop !))) (look-in ! 1 (sub ! 1 refl (whole !))))) (from ! (stop !)) (init ! 5 refl (tt, record { fits = room .0 })) $ assigns ! (of-opd ! (load ! (from ! (fld ! refl (stop !))) (look-in ! 3 (sub ! 1 refl (whole !))))) (from ! (stop !)) (init ! 9 refl (tt, record { fits = room₂ .0 })) $ assigns ! (of-opd ! (load ! (from ! (fld ! refl (stop !))) (look-in ! 4 (sub ! 1 refl (whole !))))) (from ! (stop !)) (init ! 10 refl (tt, record { fits = room₃ .0 })) $
+      sets ! (of-opd ! (count ! 1 refl refl)) 5 refl refl (tt, record { fits = room .0 }) $ sets ! (of-opd ! (count ! 3 refl refl)) 9 refl refl (tt, record { fits = room₂ .0 }) $ sets ! (of-opd ! (count ! 4 refl refl)) 10 refl refl (tt, record { fits = room₃ .0 }) $
       calls-value ! (fmOf 𝓤 H (W .laws) 𝓣) (size ∷ size ∷ size ∷ size ∷ []) byte (λ _. emp 𝓤) (λ a. accessByArguments (a .0) (a .1 .0) (a .1 .1 .0) (a .1 .1 .1 .0)) known-early (n, (clocks, (length (sent .now), (length (answer .now), tt)))) ((refl, room .0), (is₁, ((refl, room₂ .0), ((refl, room₃ .0), tt)))) (id⊢ 𝓤 _)
-      (and-then ! (load ! (from ! (stop !)) (look ! 6 refl)) (and-then ! (load ! (from ! (stop !)) (look ! 3 refl)) (and-then ! (load ! (from ! (stop !)) (look ! 10 refl)) (and-then ! (load ! (from ! (stop !)) (look ! 11 refl)) (no-more !))))) (λ is-early wt-early. land ! (from ! (stop !)) (init ! 6 refl wt-early) $
+      (and-then ! (var ! 6 refl refl) (and-then ! (var ! 3 refl refl) (and-then ! (var ! 10 refl refl) (and-then ! (var ! 11 refl refl) (no-more !))))) (λ is-early wt-early. lands-in ! 6 refl refl wt-early $
       owned ! S (Is S) (half .makes 𝓤 H A W) 0 (half .val 0 ∷ []) (refl, lit< tt) $ use1 W (‵ (Array S 16 .own zeros (_ ∷ []))) (array-repeat 𝓤 H A W S (uint-copy 𝓤 H A W w16) 16 0 (half .val 0)) $
-      peeks ! (Array S 16) (Is (Array S 16)) (shows 𝓤 H A (Array S 16)) zeros _ (λ is-zeros. assigns ! (rep ! 16 (lit ! tt)) (from ! (stop !)) (init ! 8 refl (array-lawful 𝓤 H A W S (uint-lawful 𝓤 H A W w16) 16 .typed zeros _ is-zeros .0)) $
-      move ! (8 ∷ 0 ∷ []) $ array-opens ! 16 zeros _ l7 0 (λ _.
+      peeks ! (Array S 16) (Is (Array S 16)) (shows 𝓤 H A (Array S 16)) zeros _ (λ is-zeros. sets ! (rep ! 16 (lit ! tt)) 8 refl refl (array-lawful 𝓤 H A W S (uint-lawful 𝓤 H A W w16) 16 .typed zeros _ is-zeros .0) $
+      move ! (8 ∷ 0 ∷ []) $ array-opens ! 16 zeros _ (l 7) 0 (λ _.
       move ! (27 ∷ 26 ∷ []) $ fsplit ! $ move ! (1 ∷ []) $ fsplit ! $ drop ! $ fsplit ! $ move ! (1 ∷ []) $ fsplit ! $ move ! (1 ∷ []) $ drop ! $ move ! (3 ∷ []) $ split ! $ move ! (4 ∷ 0 ∷ 5 ∷ 1 ∷ 2 ∷ 3 ∷ []) $
       -- [the chain; its token; the words; the other tokens; answer; sent; _0, from 6; ..; _6; _8, from 13; ..; _24; that they die]
-      assigns ! (addr ! (from ! (fld ! refl (hop ! (look-in ! 7 (sub ! 0 refl (whole !))) (stop !))))) (from ! (stop !)) (init ! 16 refl (tt, tt)) $ assigns ! (agg ! (and-then ! (load ! (from ! (stop !)) (look ! 16 refl)) (and-then ! (load ! (from ! (fld ! refl (stop !))) (look-in ! 7 (sub ! 1 refl (whole !)))) (no-more !)))) (from ! (stop !)) (init ! 17 refl (tt, (tt, (record { fits = room .0 }, tt)))) $
-      assigns ! (addr ! (from ! (stop !))) (from ! (stop !)) (init ! 18 refl (tt, tt)) $ assigns ! (agg ! (and-then ! (load ! (from ! (stop !)) (look ! 18 refl)) (and-then ! (lit ! tt) (no-more !)))) (from ! (stop !)) (init ! 19 refl (tt, (tt, (record { fits = lit< tt }, tt)))) $
-      looks (fmOf 𝓤 H (W .laws) 𝓣) room l7 known-looked is-early (λ ν δ ν₁ δ₁. (and-then ! (load ! (from ! (stop !)) (look ! 17 refl)) (and-then ! (load ! (from ! (stop !)) (look ! 12 refl)) (and-then ! (load ! (from ! (stop !)) (look ! 19 refl)) (no-more !))))) (λ is-nr wt-nr.
-      land ! (from ! (stop !)) (init ! 13 refl wt-nr) $ assigns ! (bin ! (load ! (from ! (stop !)) (look ! 13 refl)) (lit ! tt) tt) (from ! (stop !)) (init ! 20 refl (tt, tt)) $
-      forks-to ! (λ (x : Left) (l : List (Item 𝓤)). put 𝓤 H A 6 (‵ (fat fullShare (byte .ty) l0 0 (byte .val nr))) (put 𝓤 H A 5 (‵ ftrue) (put 𝓤 H A 4 (‵ (finally (byte .row) (answer .name) (x .bytes))) (put 𝓤 H A 2 (‵ (row S fullShare (x .row-of) l7 0)) (put 𝓤 H A 0 (‵ (finally R γ (x .chain))) l))))) (load ! (from ! (stop !)) (look ! 20 refl)) (λ Q end no.
+      sets ! (target ! 7 refl refl) 16 refl refl (tt, tt) $ sets ! (agg ! (and-then ! (var ! 16 refl refl) (and-then ! (count ! 7 refl refl) (no-more !)))) 17 refl refl (tt, (tt, (record { fits = room .0 }, tt))) $
+      sets ! (addr ! (from ! (stop !))) 18 refl refl (tt, tt) $ sets ! (agg ! (and-then ! (var ! 18 refl refl) (and-then ! (lit ! tt) (no-more !)))) 19 refl refl (tt, (tt, (record { fits = lit< tt }, tt))) $
+      looks (fmOf 𝓤 H (W .laws) 𝓣) room (l 7) known-looked is-early (λ ν δ ν₁ δ₁. (and-then ! (var ! 17 refl refl) (and-then ! (var ! 12 refl refl) (and-then ! (var ! 19 refl refl) (no-more !))))) (λ is-nr wt-nr.
+      lands-in ! 13 refl refl wt-nr $ sets ! (bin ! (var ! 13 refl refl) (lit ! tt) tt) 20 refl refl (tt, tt) $
+      forks-to ! (λ (x : Left) (Δ : List (Item 𝓤)). put 𝓤 H A 6 (‵ (fat fullShare (byte .ty) (l 0) 0 (byte .val nr))) (put 𝓤 H A 5 (‵ ftrue) (put 𝓤 H A 4 (‵ (finally (byte .row) (answer .name) (x .bytes))) (put 𝓤 H A 2 (‵ (row S fullShare (x .row-of) (l 7) 0)) (put 𝓤 H A 0 (‵ (finally R γ (x .chain))) Δ))))) (var ! 20 refl refl) (λ Q end no.
       let refused = access-refused ys clocks (sent .now) (answer .now) (not-zero nr no) in
-      assigns ! (of-opd ! (load ! (from ! (stop !)) (look ! 13 refl))) (from ! (stop !)) (init ! 6 refl wt-nr) $ use1 W (‵ (finally R γ ys)) (gives-up 𝓤 H A W R (named 0) κ (ref γ ys) (slice-vals (ref γ ys))) $ move ! (4 ∷ []) $ use1 W (‵ (finally (byte .row) (answer .name) (answer .now))) (gives-up 𝓤 H A W (byte .row) (named 2) κ₂ answer (slice-vals answer)) $
+      sets ! (of-opd ! (var ! 13 refl refl)) 6 refl refl wt-nr $ use1 W (‵ (finally R γ ys)) (gives-up 𝓤 H A W R (named 0) κ (ref γ ys) (slice-vals (ref γ ys))) $ move ! (4 ∷ []) $ use1 W (‵ (finally (byte .row) (answer .name) (answer .now))) (gives-up 𝓤 H A W (byte .row) (named 2) κ₂ answer (slice-vals answer)) $
       move ! (5 ∷ []) $ drop ! $ nothing ! $ move ! (2 ∷ 3 ∷ 4 ∷ 5 ∷ 1 ∷ 0 ∷ []) $ end (record { chain = ys; bytes = answer .now; row-of = old; is = refused; chain-long = refl; bytes-long = refl; words-long = old-long }))
       (λ end yes′.
       let served = access-served ys clocks (sent .now) (answer .now) (is-zero nr yes′) in
-      assigns ! (addr ! (from ! (stop !))) (from ! (stop !)) (init ! 22 refl (tt, tt)) $ assigns ! (agg ! (and-then ! (load ! (from ! (stop !)) (look ! 22 refl)) (and-then ! (lit ! tt) (no-more !)))) (from ! (stop !)) (init ! 23 refl (tt, (tt, (record { fits = lit< tt }, tt)))) $ rewrite ! 23 (λ (k : ℕ). ‵ (fat fullShare (sliceTy (tyRef erased mut (half .ty))) l18 0 (sliceVal (l7, 0) k))) (sym old-long) refl $
-      assigns ! (addr ! (from ! (fld ! refl (hop ! (look-in ! 10 (sub ! 0 refl (whole !))) (stop !))))) (from ! (stop !)) (init ! 24 refl (tt, tt)) $ assigns ! (agg ! (and-then ! (load ! (from ! (stop !)) (look ! 24 refl)) (and-then ! (load ! (from ! (fld ! refl (stop !))) (look-in ! 10 (sub ! 1 refl (whole !)))) (no-more !)))) (from ! (stop !)) (init ! 25 refl (tt, (tt, (record { fits = room₃ .0 }, tt)))) $
-      move ! (2 ∷ 3 ∷ 4 ∷ 5 ∷ []) $ shifts (fmOf 𝓤 H (W .laws) 𝓣) room l7 known-shift is₁ (λ ν δ. (and-then ! (load ! (from ! (stop !)) (look ! 21 refl)) (and-then ! (load ! (from ! (stop !)) (look ! 9 refl)) (and-then ! (load ! (from ! (stop !)) (look ! 6 refl)) (and-then ! (load ! (from ! (stop !)) (look ! 7 refl)) (and-then ! (load ! (from ! (stop !)) (look ! 23 refl)) (no-more !))))))) (λ w unit next-long given-long. land ! (from ! (stop !)) (init ! 20 refl (unit-typed w unit)) $
+      sets ! (addr ! (from ! (stop !))) 22 refl refl (tt, tt) $ sets ! (agg ! (and-then ! (var ! 22 refl refl) (and-then ! (lit ! tt) (no-more !)))) 23 refl refl (tt, (tt, (record { fits = lit< tt }, tt))) $ rewrite ! 23 (λ (k : ℕ). ‵ (fat fullShare (sliceTy (tyRef erased mut (half .ty))) (l 18) 0 (sliceVal ((l 7), 0) k))) (sym old-long) refl $
+      sets ! (target ! 10 refl refl) 24 refl refl (tt, tt) $ sets ! (agg ! (and-then ! (var ! 24 refl refl) (and-then ! (count ! 10 refl refl) (no-more !)))) 25 refl refl (tt, (tt, (record { fits = room₃ .0 }, tt))) $
+      move ! (2 ∷ 3 ∷ 4 ∷ 5 ∷ []) $ shifts (fmOf 𝓤 H (W .laws) 𝓣) room (l 7) known-shift is₁ (λ ν δ. (and-then ! (var ! 21 refl refl) (and-then ! (var ! 9 refl refl) (and-then ! (var ! 6 refl refl) (and-then ! (var ! 7 refl refl) (and-then ! (var ! 23 refl refl) (no-more !))))))) (λ w unit next-long given-long. lands-in ! 20 refl refl (unit-typed w unit) $
       -- [the words; the other tokens; answer's last list; the chain; its token; _0, from 5; ..; _6; _8, from 12; ..]
-      assigns ! (addr ! (from ! (fld ! refl (hop ! (look-in ! 6 (sub ! 0 refl (whole !))) (stop !))))) (from ! (stop !)) (init ! 25 refl (tt, tt)) $ assigns ! (agg ! (and-then ! (load ! (from ! (stop !)) (look ! 25 refl)) (and-then ! (load ! (from ! (fld ! refl (stop !))) (look-in ! 6 (sub ! 1 refl (whole !)))) (no-more !)))) (from ! (stop !)) (init ! 26 refl (tt, (tt, (record { fits = room .0 }, tt)))) $
-      assigns ! (addr ! (from ! (stop !))) (from ! (stop !)) (init ! 27 refl (tt, tt)) $ assigns ! (agg ! (and-then ! (load ! (from ! (stop !)) (look ! 27 refl)) (and-then ! (lit ! tt) (no-more !)))) (from ! (stop !)) (init ! 28 refl (tt, (tt, (record { fits = lit< tt }, tt)))) $ rewrite ! 28 (λ (k : ℕ). ‵ (fat fullShare (sliceTy (tyRef erased imm (half .ty))) l24 0 (sliceVal (l7, 0) k))) (sym next-long) refl $
-      move ! (3 ∷ 4 ∷ 0 ∷ []) $ takes (fmOf 𝓤 H (W .laws) 𝓣) room l7 known-taking next-long (λ ν δ. (and-then ! (load ! (from ! (stop !)) (look ! 25 refl)) (and-then ! (load ! (from ! (stop !)) (look ! 27 refl)) (no-more !)))) (λ w′ unit′ taken-long. land ! (from ! (stop !)) (store ! 20 refl (unit-typed w′ unit′)) $
-      assigns ! (of-opd ! (load ! (from ! (stop !)) (look ! 12 refl))) (from ! (stop !)) (init ! 5 refl wt-nr) $ nothing ! $ move ! (1 ∷ 2 ∷ 3 ∷ 4 ∷ 5 ∷ 0 ∷ []) $
+      sets ! (target ! 6 refl refl) 25 refl refl (tt, tt) $ sets ! (agg ! (and-then ! (var ! 25 refl refl) (and-then ! (count ! 6 refl refl) (no-more !)))) 26 refl refl (tt, (tt, (record { fits = room .0 }, tt))) $
+      sets ! (addr ! (from ! (stop !))) 27 refl refl (tt, tt) $ sets ! (agg ! (and-then ! (var ! 27 refl refl) (and-then ! (lit ! tt) (no-more !)))) 28 refl refl (tt, (tt, (record { fits = lit< tt }, tt))) $ rewrite ! 28 (λ (k : ℕ). ‵ (fat fullShare (sliceTy (tyRef erased imm (half .ty))) (l 24) 0 (sliceVal ((l 7), 0) k))) (sym next-long) refl $
+      move ! (3 ∷ 4 ∷ 0 ∷ []) $ takes (fmOf 𝓤 H (W .laws) 𝓣) room (l 7) known-taking next-long (λ ν δ. (and-then ! (var ! 25 refl refl) (and-then ! (var ! 27 refl refl) (no-more !)))) (λ w′ unit′ taken-long. lands-over ! 20 refl refl (unit-typed w′ unit′) $
+      sets ! (of-opd ! (var ! 12 refl refl)) 5 refl refl wt-nr $ nothing ! $ move ! (1 ∷ 2 ∷ 3 ∷ 4 ∷ 5 ∷ 0 ∷ []) $
       forget ! 21 refl $ forget ! 22 refl $ forget ! 23 refl $ forget ! 24 refl $ forget ! 25 refl $ forget ! 26 refl $ forget ! 27 refl $ forget ! 28 refl $ forget ! 29 refl $ end (record { chain = taken; bytes = given; row-of = next; is = served; chain-long = taken-long; bytes-long = given-long; words-long = next-long }))))
-      (λ x. move ! (2 ∷ []) $ array-closes ! 16 (x .row-of) l7 0 (x .words-long) (λ v.
+      (λ x. move ! (2 ∷ []) $ array-closes ! 16 (x .row-of) (l 7) 0 (x .words-long) (λ v.
       -- [_7; the chain's last list; its token; the other tokens; answer's last list; true; _0, from 6; ..; _6; _8, from 13; ..; _24; that they die]
       returns ! (look ! 6 refl) $ move ! (span 6 7 ++ (0 ∷ span 13 18)) $ leaves W dies (holds _ ∷ holds _ ∷ holds _ ∷ holds _ ∷ holds _ ∷ holds _ ∷ holds _ ∷ holds _ ∷ holds _ ∷ holds _ ∷ holds _ ∷ holds _ ∷ holds _ ∷ holds _ ∷ holds _ ∷ holds _ ∷ []) ! $
       suffices ! _ (ends-at 𝓤 H A access.ended stayed (access.clauses 𝓤 H A mem run) W (y, tt) (byte .val nr) nr (x .chain, (tt, (tt, (x .bytes, tt)))) (x .chain-long, (tt, (tt, (x .bytes-long, tt))))) $ says ! (x .is) $

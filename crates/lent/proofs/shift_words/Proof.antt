@@ -1,6 +1,14 @@
 -- `lent::shift_words` meets its contract: a walk of its MIR, by hand. Both slices are opened once, before the loop. A turn copies one record out, stores its shift word and calls `with`.
 -- Assumes nothing.
 use native.Mathlib.Omega.{arith}
+use mathlib.Core.List.{_++_}
+use mathlib.Core.Option.{Option, none, some}
+use lib.Dec.{ltb}
+use mir.Syntax.{Local, Body, tyRef, mut, imm, seq, block, loop}
+use mir.Val.{Val, vbool}
+use types.Kit.{Item, Post, runs, Sq}
+use denote.Memory.{pointee}
+use denote.Slice.{sliceTy}
 use denote.Struct.Laws as LL
 use denote.Shadow.{pureL}
 use denote.Signature.{shrSliceOf}
@@ -24,14 +32,17 @@ use Rattle.pass.proofs.to_pass_in.Met as look-thm
 use Rattle.pass.proofs.found as last′
 use Rattle.pass.proofs.found.Symbol as last-def
 use Rattle.pass.proofs.found.Met as last-thm
-use Rattle.pass.proofs.Widths.new as none
+use Rattle.pass.proofs.Widths.new as new
 use Rattle.pass.proofs.Widths.new.Symbol as none-def
 use Rattle.pass.proofs.Widths.new.Met as none-thm
 use Rattle.pass.proofs.Widths.with as also
 use Rattle.pass.proofs.Widths.with.Symbol as also-def
 use Rattle.pass.proofs.Widths.with.Met as also-thm
-use Rattle.lent.proofs.Records.{size, byte, half, device, widths, bytes-of}
-use Rattle.lent.proofs.Walk.{Walk, calls-value, leave, leave-room, tests, whiles, proves}
+use Rattle.lent.proofs.Records.{size, byte, half, half-sized, device, device-sized, widths, bytes-of, at-shift, local-shift}
+use Rattle.lent.proofs.Parts.{part, rest}
+use Rattle.lent.proofs.Locals.{span, values, envOf, held, starts, leaves, var, sets, lands-in, lands-over, start, count}
+use Rattle.lent.proofs.Elements.{points, takes-out, puts-in, copies}
+use Rattle.lent.proofs.Walk.{Walk, calls-value, tests, whiles, proves}
 use Rattle.lent.proofs.shift_words.Key as key
 use Rattle.lent.proofs.shift_words as shift-words
 use Rattle.lent.proofs.shift_words.Statement as stated
@@ -54,23 +65,64 @@ IsWidths s = Is (widths .row) s (widths .val s ∷ [])
 shift-is : (d : Device) → Is R d (device .val d ∷ []) → Is S (d .shift) (half .val (d .shift) ∷ [])
 shift-is d is = (refl, LL.owed T.the-type T′.the-laws d (device .val d ∷ []) is .1 .0 .1)
 
+-- the locals
+abbrev ls : List Local
+ls = values (byte .ty ∷ sliceTy (tyRef (named 0) imm (pointee (R .written))) ∷ byte .ty ∷ sliceTy (tyRef (named 1) mut (pointee (S .written))) ∷ size .ty ∷ widths .ty ∷ size .ty ∷ device .ty ∷ size .ty ∷ size .ty ∷ tyBool ∷ size .ty ∷ tyPtr ∷ device .ty ∷ tyPtr ∷ [])
+
+-- the turns
+abbrev m : ℕ → List Device → List ℕ → ℕ
+m first ys ws = toPassIn first (length ys) (length ws)
+
+-- what the first i records tell
+abbrev at : List Device → ℕ → Widths
+at ys i = widthsOf noWidths (take i ys)
+
+-- the functions called, met
+record Known {M : Type 1} (𝓤 : URA M) (H : Heap 𝓤) (A : Atoms 𝓤) (mem : Memory → SProp 𝓤) (run : Routine → Fun 𝓤) (𝓣 : Tables 𝓤 H) : Type 1 where
+  look : Triple 𝓤 (𝓣 .C look-def.name) (tripleOf 𝓤 H A look′.signature (look′.spec 𝓤 H A mem run))
+  new : Triple 𝓤 (𝓣 .C none-def.name) (tripleOf 𝓤 H A new.signature (new.spec 𝓤 H A mem run))
+  also : Triple 𝓤 (𝓣 .C also-def.name) (tripleOf 𝓤 H A also.signature (also.spec 𝓤 H A mem run))
+  last : Triple 𝓤 (𝓣 .C last-def.name) (tripleOf 𝓤 H A last′.signature (last′.spec 𝓤 H A mem run))
+
+module _ {M : Type 1} (𝓤 : URA M) (H : Heap 𝓤) (A : Atoms 𝓤) (W : Given 𝓤 H A) (mem : Memory → SProp 𝓤) (run : Routine → Fun 𝓤) (𝓣 : Tables 𝓤 H) (b o : ℕ) (ys : List Device) (first b₁ o₁ : ℕ) (ws : List ℕ) (l : ℕ → ℕ) (q′ : Share) where
+  -- the words where i are stored, the records, and the locals, vs from _10 on
+  abbrev At-turn : ℕ → List (Option Val) → List (Item 𝓤)
+  At-turn i vs = ‵ (row S fullShare (wordsTo ys ws i) b₁ o₁) ∷ ‵ (row R q′ ys b o) ∷ held 𝓤 (envOf ls l) (none ∷ some (sliceVal (b, o) (length ys)) ∷ some (byte .val first) ∷ some (sliceVal (b₁, o₁) (length ws)) ∷ some (size .val (m first ys ws)) ∷ some (widths .val (at ys i)) ∷ some (vint w64 i) ∷ none ∷ some (size .val (length ys)) ∷ some (size .val (length ws)) ∷ vs)
+
+  -- the loop's state: i records are looked at
+  abbrev At : Type 0
+  At = (i : ℕ) × ((i ≤ m first ys ws) × (IsWidths (at ys i) × AllBytes (take i ys)))
+
+  looped : Known 𝓤 H A mem run 𝓣 → Room R (length ys) → Room S (length ws) → IsWidths (at ys 0) → (Θ : List (Item 𝓤)) {after : Body} {p : Post 𝓤 H}
+      → (IsWidths (at ys (m first ys ws)) → AllBytes (take (m first ys ws) ys) → Sq W (At-turn (m first ys ws) (some (vbool (ltb (m first ys ws) (m first ys ws))) ∷ []) ++ Θ) (runs (𝓣 .C) (𝓣 .Λ) (envOf ls l) after p))
+      → Sq W (At-turn 0 [] ++ Θ) (runs (𝓣 .C) (𝓣 .Λ) (envOf ls l) (seq (block (loop (part (part (part (rest (rest (rest (rest (rest (code.function .body))))))))))) after) p)
+  looped known room room₁ is-none Θ {after} {p} ended =
+      whiles ! 𝓣 (λ (t : At). m first ys ws - t .0) (λ t. At-turn (t .0) []) Θ (0, (zero-le, (is-none, all-start ys))) (λ t Q again out.
+      -- [the words; the records; _0; _1; ..]
+      let i : ℕ = t .0 in
+      let e : Device = getD ys i powerUp in
+      sets ! (bin ! (var ! 8 refl refl) (var ! 6 refl refl) tt) 12 refl refl (tt, tt) $ tests ! (var ! 12 refl refl) (λ more.
+      let l′ : i < m first ys ws = ltb→lt i (m first ys ws) more in
+      let below = pass-in-below first (length ys) (length ws) i l′ in
+      let long : i < length (wordsTo ys ws i) = omega (arith, below .1, length-words ys ws i (omega (arith, below .1))) in
+      let fits : i + 1 < 2 ^ 64 = omega (arith, below .0, room .0) in
+      let step : widthsWith (at ys i) e ≡ at ys (i + 1) = widths-more ys i (below .0) in
+      move ! (1 ∷ 0 ∷ []) $ copies ! device device-sized q′ ys i (length ys) powerUp b o (below .0) (room .1) (below .0) (var ! 8 refl refl) (from ! (stop !)) (λ wt. init ! 13 refl wt) (start ! 3 refl refl) (var ! 13 refl refl) (from ! (stop !)) (init ! 14 refl (tt, tt)) (from ! (hop ! (look ! 16 refl) (stop !))) (from ! (stop !)) (λ wt. init ! 17 refl wt) (λ is-e. move ! (1 ∷ 0 ∷ []) $
+      sets ! (of-opd ! (var ! 15 refl refl)) 9 refl refl (device .typed 𝓤 H A W e is-e) $
+      points ! 2 tt i (length ws) b₁ o₁ (below .1) (room₁ .1) (var ! 8 refl refl) (from ! (stop !)) (λ wt. store ! 13 refl wt) (start ! 5 refl refl) (var ! 13 refl refl) (from ! (stop !)) (init ! 16 refl (tt, tt)) $
+      takes-out ! half half-sized fullShare (wordsTo ys ws i) i 0 b₁ o₁ long (λ _. assigns ! (of-opd ! (load ! (from ! (at-shift !)) (look-in ! 11 (local-shift !)))) (from ! (hop ! (look ! 18 refl) (stop !))) (store-raw ! 0 refl (half .typed 𝓤 H A W (e .shift) (shift-is e is-e))) $
+      puts-in ! half half-sized fullShare (wordsTo ys ws i) i 0 (e .shift) b₁ o₁ long (shift-is e is-e) $ rewrite ! 0 (λ (l : List ℕ). ‵ (row S fullShare l b₁ o₁)) (words-more ys ws i (below .1)) refl $
+      calls-value ! (fmOf 𝓤 H (W .laws) 𝓣) (widths ∷ device ∷ []) widths (λ _. emp 𝓤) (λ a. widthsWith (a .0) (a .1 .0)) (known .also) (at ys i, (e, tt)) (t .1 .1 .0, (is-e, tt)) (id⊢ 𝓤 _) (and-then ! (var ! 8 refl refl) (and-then ! (var ! 10 refl refl) (no-more !))) (λ is-next wt-next.
+      lands-over ! 7 refl refl wt-next $ rewrite ! 7 (λ (s : Widths). ‵ (fat fullShare (widths .ty) (l 5) 0 (widths .val s))) step refl $
+      assigns-last ! (bin ! (var ! 8 refl refl) (lit ! tt) (record { fits = fits })) (from ! (stop !)) (store ! 8 refl (tt, record { fits = fits })) $ forget ! 9 refl $ forget ! 12 refl $ forget ! 13 refl $ forget ! 14 refl $ forget ! 15 refl $ forget ! 16 refl $
+      again (i + 1, (omega (arith, l′), (subst IsWidths step is-next, all-more ys i (below .0) (t .1 .1 .1) (bytes-of e is-e)))) (omega (arith, l′))))))
+      (λ stops. out _ $
+      let same : i ≡ m first ys ws = le-antisymm (t .1 .0) (nltb→le i (m first ys ws) stops) in
+      subst (λ (j : ℕ). Sq W (At-turn j (some (vbool (ltb j (m first ys ws))) ∷ []) ++ Θ) (runs (𝓣 .C) (𝓣 .Λ) (envOf ls l) after p)) (sym same) (ended (subst (λ (j : ℕ). IsWidths (at ys j)) same (t .1 .1 .0)) (subst (λ (j : ℕ). AllBytes (take j ys)) same (t .1 .1 .1)))))
+
 module _ {M : Type 1} (𝓤 : URA M) (H : Heap 𝓤) (A : Atoms 𝓤) (W : Given 𝓤 H A) (mem : Memory → SProp 𝓤) (run : Routine → Fun 𝓤) (κ κ₁ : Lft) (q q₁ : Share) (b o : ℕ) (γ : GName) (ys : List Device) (first : ℕ) (b₁ o₁ : ℕ) (γ₁ : GName) (ws : List ℕ) where
-  abbrev n : ℕ
-  n = length ys
-
-  abbrev m : ℕ
-  m = toPassIn first n (length ws)
-
-  -- what the first i records tell
-  abbrev at : ℕ → Widths
-  at i = widthsOf noWidths (take i ys)
-
-  -- the words where i are stored
-  abbrev vs : ℕ → List ℕ
-  vs i = wordsTo ys ws i
-
   abbrev nr : ℕ
-  nr = found first (fit (at m))
+  nr = found first (fit (at ys (m first ys ws)))
 
   abbrev x : RefT (List Device)
   x = record { ptr = (b, o); name = γ; now = ys }
@@ -81,79 +133,32 @@ module _ {M : Type 1} (𝓤 : URA M) (H : Heap 𝓤) (A : Atoms 𝓤) (W : Given
   abbrev y : Bound 𝓤 H A shift-words.signature
   y = ((κ, (κ₁, tt)), (q, (q₁, tt)), tt, (x, (first, (ref ws, tt))), (slice-vals x, (byte .val first ∷ [], (slice-vals (ref ws), tt))))
 
-  -- the loop's state: i records are looked at
-  abbrev At : Type 0
-  At = (i : ℕ) × ((i ≤ m) × (IsWidths (at i) × AllBytes (take i ys)))
-
-  walk : (𝓣 : Tables 𝓤 H) → Triple 𝓤 (𝓣 .C look-def.name) (tripleOf 𝓤 H A look′.signature (look′.spec 𝓤 H A mem run)) → Triple 𝓤 (𝓣 .C none-def.name) (tripleOf 𝓤 H A none.signature (none.spec 𝓤 H A mem run))
-      → Triple 𝓤 (𝓣 .C also-def.name) (tripleOf 𝓤 H A also.signature (also.spec 𝓤 H A mem run)) → Triple 𝓤 (𝓣 .C last-def.name) (tripleOf 𝓤 H A last′.signature (last′.spec 𝓤 H A mem run))
-      → Room R n → Is (byte .row) first (byte .val first ∷ []) → Room S (length ws) → Walk 𝓤 H A shift-words.ended stayed (shift-words.clauses 𝓤 H A mem run) 𝓣 code.function y tt
-  walk 𝓣 known-look known-none known-also known-last room is-first room₁ =
+  walk : (𝓣 : Tables 𝓤 H) → Known 𝓤 H A mem run 𝓣 → Room R (length ys) → Is (byte .row) first (byte .val first ∷ []) → Room S (length ws) → Walk 𝓤 H A shift-words.ended stayed (shift-words.clauses 𝓤 H A mem run) 𝓣 code.function y tt
+  walk 𝓣 known room is-first room₁ =
       qed W ((‵ (flft κ q) ⊛ ‵ (flft κ₁ q₁) ⊛ ‵ ftrue) ∷ ‵ (owns (ShrSlice (named 0) κ R ∷ byte .row ∷ MutSlice (named 1) κ₁ S ∷ []) (y .3) (y .4)) ∷ []) ∵ enter ! (𝓣 .C) (𝓣 .Λ) code.function _ _ $
-      alloc1 ! (λ l0. alloc1 ! (λ l1. alloc1 ! (λ l2. alloc1 ! (λ l3. alloc1 ! (λ l4. alloc1 ! (λ l5. alloc1 ! (λ l6. alloc1 ! (λ l7. alloc1 ! (λ l8. alloc1 ! (λ l9. alloc1 ! (λ l10. alloc1 ! (λ l11. alloc1 ! (λ l12. alloc1 ! (λ l13. alloc1 ! (λ l14. alloc0 ! $ params1 ! $
-      pass1 ! (init ! 26 refl (tt, (tt, (record { fits = room .0 }, tt)))) $ pass1 ! (init ! 24 refl (byte .typed 𝓤 H A W first is-first)) $ pass1 ! (init ! 22 refl (tt, (tt, (record { fits = room₁ .0 }, tt)))) $ pass0 ! $
-      -- [_14; …; _13; …; ..; _0; …; the tokens; what the parameters own]
-      assigns ! (of-opd ! (load ! (from ! (fld ! refl (stop !))) (look-in ! 26 (sub ! 1 refl (whole !))))) (from ! (stop !)) (init ! 12 refl (tt, record { fits = room .0 })) $
-      assigns ! (of-opd ! (load ! (from ! (fld ! refl (stop !))) (look-in ! 22 (sub ! 1 refl (whole !))))) (from ! (stop !)) (init ! 10 refl (tt, record { fits = room₁ .0 })) $
-      calls-value ! (fmOf 𝓤 H (W .laws) 𝓣) (byte ∷ size ∷ size ∷ []) size (λ _. emp 𝓤) (λ a. toPassIn (a .0) (a .1 .0) (a .1 .1 .0)) known-look (first, (n, (length ws, tt))) (is-first, ((refl, room .0), ((refl, room₁ .0), tt))) (id⊢ 𝓤 _)
-      (and-then ! (load ! (from ! (stop !)) (look ! 25 refl)) (and-then ! (load ! (from ! (stop !)) (look ! 13 refl)) (and-then ! (load ! (from ! (stop !)) (look ! 11 refl)) (no-more !)))) (λ is-m wt-m. land ! (from ! (stop !)) (init ! 20 refl wt-m) $
-      calls-value ! (fmOf 𝓤 H (W .laws) 𝓣) [] widths (λ _. emp 𝓤) (λ _. noWidths) known-none tt tt (id⊢ 𝓤 _) (no-more !) (λ is-none wt-none.
-      land ! (from ! (stop !)) (init ! 18 refl wt-none) $ rewrite ! 18 (λ (s : Widths). ‵ (fat fullShare (widths .ty) l5 0 (widths .val s))) (widths-start ys) refl $
-      assigns ! (of-opd ! (lit ! tt)) (from ! (stop !)) (init ! 16 refl (tt, record { fits = lit< tt })) $
-      move ! (31 ∷ 30 ∷ []) $ fsplit ! $ fsplit ! $ pureL ! (at-slice R x (slice-vals x)) (λ _. fsplit ! $ move ! (3 ∷ []) $ split ! $ move ! (3 ∷ 0 ∷ []) $
+      starts W ls ! (λ l D dies. params1 ! $ pass1 ! (init ! 1 refl (tt, (tt, (record { fits = room .0 }, tt)))) $ pass1 ! (init ! 2 refl (byte .typed 𝓤 H A W first is-first)) $ pass1 ! (init ! 3 refl (tt, (tt, (record { fits = room₁ .0 }, tt)))) $ pass0 ! $
+      -- [_0; _1; ..; _14; that they die; the tokens; what the parameters own]
+      sets ! (of-opd ! (count ! 1 refl refl)) 8 refl refl (tt, record { fits = room .0 }) $ sets ! (of-opd ! (count ! 3 refl refl)) 9 refl refl (tt, record { fits = room₁ .0 }) $
+      calls-value ! (fmOf 𝓤 H (W .laws) 𝓣) (byte ∷ size ∷ size ∷ []) size (λ _. emp 𝓤) (λ a. toPassIn (a .0) (a .1 .0) (a .1 .1 .0)) (known .look) (first, (length ys, (length ws, tt))) (is-first, ((refl, room .0), ((refl, room₁ .0), tt))) (id⊢ 𝓤 _)
+      (and-then ! (var ! 3 refl refl) (and-then ! (var ! 9 refl refl) (and-then ! (var ! 10 refl refl) (no-more !)))) (λ is-m wt-m. lands-in ! 4 refl refl wt-m $
+      calls-value ! (fmOf 𝓤 H (W .laws) 𝓣) [] widths (λ _. emp 𝓤) (λ _. noWidths) (known .new) tt tt (id⊢ 𝓤 _) (no-more !) (λ is-none wt-none. lands-in ! 5 refl refl wt-none $ rewrite ! 5 (λ (s : Widths). ‵ (fat fullShare (widths .ty) (l 5) 0 (widths .val s))) (widths-start ys) refl $
+      sets ! (of-opd ! (lit ! tt)) 6 refl refl (tt, record { fits = lit< tt }) $
+      move ! (17 ∷ 16 ∷ []) $ fsplit ! $ fsplit ! $ pureL ! (at-slice R x (slice-vals x)) (λ _. fsplit ! $ move ! (3 ∷ []) $ split ! $ move ! (3 ∷ 0 ∷ []) $
       looks-slice ! tt R (Is R) (shows 𝓤 H A R) (λ d. device .val d ∷ []) (device .tells) (LL.copy T.the-type T′.the-copy 𝓤 H A W) ys b o (λ q′.
-      -- [the records; the open borrow; the borrow; the other token; res; what the others own; _14; …; ..; _0; …]
+      -- [the records; the open borrow; the borrow; the other token; res; what the others own; _0; _1; ..]
       move ! (5 ∷ []) $ fsplit ! $ drop ! $ fsplit ! $ fsplit ! $ pureL ! (at-slice S (ref ws) (slice-vals (ref ws))) (λ _. fsplit ! $ move ! (6 ∷ []) $ split ! $ move ! (2 ∷ 3 ∷ 0 ∷ []) $ opens-slice ! tt S ws b₁ o₁ $
-      -- [the words; their open borrow; obs; auth; true; true; the records; the open borrow; the borrow; res; _14; …; ..; _0; …]
-      rewrite ! 0 (λ (l : List ℕ). ‵ (row S fullShare l b₁ o₁)) (words-start ys ws) refl $
-      move ! (0 ∷ 6 ∷ 26 ∷ 28 ∷ 24 ∷ 18 ∷ 16 ∷ 14 ∷ 12 ∷ 10 ∷ 30 ∷ 36 ∷ 32 ∷ []) $
-      whiles ! 𝓣 (λ (t : At). m - t .0) (λ t. ‵ (row S fullShare (vs (t .0)) b₁ o₁) ∷ ‵ (row R q′ ys b o) ∷ ‵ (fat fullShare (tyInt w64) l6 0 (vint w64 (t .0))) ∷ ‵ (fat fullShare (widths .ty) l5 0 (widths .val (at (t .0)))) ∷ ‵ (froom (device .ty) l7 0) ∷ ‵ (froom tyBool l10 0) ∷ ‵ (froom (tyInt w64) l11 0) ∷ ‵ (froom tyPtr l12 0) ∷ ‵ (froom (device .ty) l13 0) ∷ ‵ (froom tyPtr l14 0) ∷ [])
-      _ (0, (zero-le, (subst IsWidths (widths-start ys) is-none, all-start ys))) (λ t Q again out.
-      -- [the words; the records; _6; _5; _7; _10; _11; _12; _13; _14; _4; _1; _3; …]
-      let i : ℕ = t .0 in
-      let e : Device = getD ys i powerUp in
-      assigns ! (bin ! (load ! (from ! (stop !)) (look ! 2 refl)) (load ! (from ! (stop !)) (look ! 10 refl)) tt) (from ! (stop !)) (init ! 5 refl (tt, tt)) $
-      tests ! (load ! (from ! (stop !)) (look ! 5 refl)) (λ more.
-      let l : i < m = ltb→lt i m more in
-      let below = pass-in-below first n (length ws) i l in
-      let l′ : i < length (vs i) = omega (arith, below .1, length-words ys ws i (omega (arith, below .1))) in
-      let fits : i + 1 < 2 ^ 64 = omega (arith, below .0, room .0) in
-      let step : widthsWith (at i) e ≡ at (i + 1) = widths-more ys i (below .0) in
-      let stored : set (vs i) i (e .shift) ≡ vs (i + 1) = words-more ys ws i (below .1) in
-      assigns ! (bin ! (load ! (from ! (stop !)) (look ! 2 refl)) (lit ! tt) (scaled-fits i n 80 (below .0) (room .1))) (from ! (stop !)) (init ! 6 refl (tt, scaled-fits i n 80 (below .0) (room .1))) $
-      assigns ! (bin ! (load ! (from ! (fld ! refl (stop !))) (look-in ! 11 (sub ! 0 refl (whole !)))) (load ! (from ! (stop !)) (look ! 6 refl)) tt) (from ! (stop !)) (init ! 7 refl (tt, tt)) $
-      rewrite ! 7 (λ (p : ℕ). ‵ (fat fullShare tyPtr l12 0 (vptr b p))) (sym (place-is 80 o i)) refl $
-      move ! (1 ∷ 0 ∷ []) $ elem-out ! R (Is R) (shows 𝓤 H A R) (λ x. device .val x ∷ []) (device .tells) q′ ys i powerUp b o (below .0) (λ is-e.
-      assigns ! (of-opd ! (load ! (from ! (hop ! (look ! 9 refl) (stop !))) (look-raw ! 0 refl))) (from ! (stop !)) (init ! 10 refl (device .typed 𝓤 H A W e is-e)) $
-      elem-back ! R q′ ys i powerUp (device .val e ∷ []) b o (below .0) $ move ! (1 ∷ 0 ∷ []) $
-      assigns ! (of-opd ! (load ! (from ! (stop !)) (look ! 8 refl))) (from ! (stop !)) (init ! 4 refl (device .typed 𝓤 H A W e is-e)) $
-      assigns ! (bin ! (load ! (from ! (stop !)) (look ! 2 refl)) (lit ! tt) (scaled-fits i (length ws) 2 (below .1) (room₁ .1))) (from ! (stop !)) (store ! 6 refl (tt, scaled-fits i (length ws) 2 (below .1) (room₁ .1))) $
-      assigns ! (bin ! (load ! (from ! (fld ! refl (stop !))) (look-in ! 12 (sub ! 0 refl (whole !)))) (load ! (from ! (stop !)) (look ! 6 refl)) tt) (from ! (stop !)) (init ! 9 refl (tt, tt)) $
-      rewrite ! 9 (λ (p : ℕ). ‵ (fat fullShare tyPtr l14 0 (vptr b₁ p))) (sym (place-is 2 o₁ i)) refl $
-      elem-out ! S (Is S) (shows 𝓤 H A S) (λ x. half .val x ∷ []) (half .tells) fullShare (vs i) i 0 b₁ o₁ l′ (λ _.
-      assigns ! (of-opd ! (load ! (from ! (fld ! refl (stop !))) (look-in ! 6 (sub ! 1 refl (whole !))))) (from ! (hop ! (look ! 11 refl) (stop !))) (store-raw ! 0 refl (half .typed 𝓤 H A W (e .shift) (shift-is e is-e))) $
-      move ! (1 ∷ []) $ drop ! $ owned ! S (Is S) (half .makes 𝓤 H A W) (e .shift) (half .val (e .shift) ∷ []) (shift-is e is-e) $ move ! (1 ∷ 0 ∷ []) $ elem-put ! S fullShare (vs i) i (e .shift) (half .val (e .shift) ∷ []) b₁ o₁ l′ $
-      rewrite ! 0 (λ (l : List ℕ). ‵ (row S fullShare l b₁ o₁)) stored refl $
-      calls-value ! (fmOf 𝓤 H (W .laws) 𝓣) (widths ∷ device ∷ []) widths (λ _. emp 𝓤) (λ a. widthsWith (a .0) (a .1 .0)) known-also (at i, (e, tt)) (t .1 .1 .0, (is-e, tt)) (id⊢ 𝓤 _)
-      (and-then ! (load ! (from ! (stop !)) (look ! 4 refl)) (and-then ! (load ! (from ! (stop !)) (look ! 5 refl)) (no-more !))) (λ is-next wt-next.
-      land ! (from ! (stop !)) (store ! 3 refl wt-next) $ rewrite ! 3 (λ (s : Widths). ‵ (fat fullShare (widths .ty) l5 0 (widths .val s))) step refl $
-      assigns-last ! (bin ! (load ! (from ! (stop !)) (look ! 2 refl)) (lit ! tt) (record { fits = fits })) (from ! (stop !)) (store ! 2 refl (tt, record { fits = fits })) $
-      forget ! 4 refl $ forget ! 5 refl $ forget ! 6 refl $ forget ! 7 refl $ forget ! 8 refl $ forget ! 9 refl $
-      again (i + 1, (omega (arith, l), (subst IsWidths step is-next, all-more ys i (below .0) (t .1 .1 .1) (bytes-of e is-e)))) (omega (arith, l))))))
-      (λ ended. out _ $
-      let same : i ≡ m = le-antisymm (t .1 .0) (nltb→le i m ended) in
-      let is-all : IsWidths (at m) = subst (λ (k : ℕ). IsWidths (at k)) same (t .1 .1 .0) in
-      let long : length (vs m) ≡ length ws = length-words ys ws m (pass-in-le first n (length ws)) in
-      rewrite ! 0 (λ (k : ℕ). ‵ (row S fullShare (vs k) b₁ o₁)) same refl $ rewrite ! 3 (λ (k : ℕ). ‵ (fat fullShare (widths .ty) l5 0 (widths .val (at k)))) same refl $
-      calls-value ! (fmOf 𝓤 H (W .laws) 𝓣) (byte ∷ widths ∷ []) byte (λ _. emp 𝓤) (λ a. found (a .0) (fit (a .1 .0))) known-last (first, (at m, tt)) (is-first, (is-all, tt)) (id⊢ 𝓤 _)
-      (and-then ! (load ! (from ! (stop !)) (look ! 36 refl)) (and-then ! (load ! (from ! (stop !)) (look ! 4 refl)) (no-more !))) (λ is-r wt-r. land ! (from ! (stop !)) (init ! 38 refl wt-r) $
-      move ! (0 ∷ 13 ∷ 14 ∷ 15 ∷ []) $ closes-slice ! tt S ws (vs m) long b₁ o₁ $ move ! (3 ∷ 17 ∷ []) $ shuts-slice ! tt R q′ ys b o $
-      -- [the chain's token; obs; the words' borrow; their token; _6; _5; _7; _10; ..; _14; _4; _1; _3; true; true; the chain's borrow; res; _14's …; ..; _10's …; _9; …; _8; …; _7's …; ..; _3's …; _2; …; _1's …; _0; …]
-      returns ! (look ! 36 refl) $ leave ! 36 36 refl refl $ leave ! 13 34 refl refl $ leave ! 32 32 refl refl $ leave ! 13 30 refl refl $ leave ! 12 28 refl refl $ leave ! 5 26 refl refl $ leave ! 4 24 refl refl $ leave-room ! 4 22 refl refl $
-      leave ! 20 20 refl refl $ leave ! 18 18 refl refl $ leave ! 4 16 refl refl $ leave-room ! 4 14 refl refl $ leave-room ! 4 12 refl refl $ leave-room ! 4 10 refl refl $ leave-room ! 4 8 refl refl $ free0 ! $ keep ! (0 ∷ 1 ∷ 2 ∷ 3 ∷ []) $
-      suffices ! _ (ends-at 𝓤 H A shift-words.ended stayed (shift-words.clauses 𝓤 H A mem run) W (y, tt) (byte .val nr) nr (tt, (tt, (vs m, tt))) (tt, (tt, (long, tt)))) $ says ! (ap (found first) (fit-all (take m ys) (subst (λ (k : ℕ). AllBytes (take k ys)) same (t .1 .1 .1))), refl) $
-      nothing ! $ move ! (4 ∷ 0 ∷ []) $ join ! $ move ! (1 ∷ 0 ∷ []) $ join ! $ frame ! $ fjoin ! $ pureI ! (at-slice S (ref (vs m)) (slice-vals (ref ws))) (tt, (tt, tt)) (ap (λ (k : ℕ). sliceVal (b₁, o₁) k ∷ []) (sym long), subst (Room S) (sym long) room₁) $
-      fjoin ! $ nothing ! $ move ! (1 ∷ 0 ∷ []) $ fjoin ! $ nothing ! $ fjoin ! $ nothing ! $ fjoin ! $ frame ! $ owned ! (byte .row) (Is (byte .row)) (byte .makes 𝓤 H A W) nr _ is-r $ done !)))))))))))))))))))))))
+      -- [the words; their open borrow; obs; auth; true; true; the records; the open borrow; the borrow; res; _0, from 10; ..; _14; that they die]
+      rewrite ! 0 (λ (l : List ℕ). ‵ (row S fullShare l b₁ o₁)) (words-start ys ws) refl $ move ! (0 ∷ 6 ∷ span 10 16) $
+      looped 𝓤 H A W mem run 𝓣 b o ys first b₁ o₁ ws l q′ known room room₁ (subst IsWidths (widths-start ys) is-none) _ (λ is-all bytes.
+      let long : length (wordsTo ys ws (m first ys ws)) ≡ length ws = length-words ys ws (m first ys ws) (pass-in-le first (length ys) (length ws)) in
+      calls-value ! (fmOf 𝓤 H (W .laws) 𝓣) (byte ∷ widths ∷ []) byte (λ _. emp 𝓤) (λ a. found (a .0) (fit (a .1 .0))) (known .last) (first, (at ys (m first ys ws), tt)) (is-first, (is-all, tt)) (id⊢ 𝓤 _) (and-then ! (var ! 5 refl refl) (and-then ! (var ! 8 refl refl) (no-more !))) (λ is-r wt-r. lands-in ! 2 refl refl wt-r $
+      -- [the words; the records; _0; ..; _14; that they die, at 17; the words' open borrow; obs; auth; true; true; the open borrow; the borrow; res]
+      move ! (0 ∷ 18 ∷ 19 ∷ 20 ∷ []) $ closes-slice ! tt S ws (wordsTo ys ws (m first ys ws)) long b₁ o₁ $ move ! (3 ∷ 22 ∷ []) $ shuts-slice ! tt R q′ ys b o $
+      -- [the chain's token; obs; the words' borrow; their token; _0; ..]
+      returns ! (look ! 4 refl) $ move ! (span 4 16) $ leaves W dies (some _ ∷ some _ ∷ some _ ∷ some _ ∷ some _ ∷ some _ ∷ some _ ∷ none ∷ some _ ∷ some _ ∷ some _ ∷ []) ! $ keep ! (0 ∷ 1 ∷ 2 ∷ 3 ∷ []) $
+      suffices ! _ (ends-at 𝓤 H A shift-words.ended stayed (shift-words.clauses 𝓤 H A mem run) W (y, tt) (byte .val nr) nr (tt, (tt, (wordsTo ys ws (m first ys ws), tt))) (tt, (tt, (long, tt)))) $ says ! (ap (found first) (fit-all (take (m first ys ws) ys) bytes), refl) $
+      nothing ! $ move ! (4 ∷ 0 ∷ []) $ join ! $ move ! (1 ∷ 0 ∷ []) $ join ! $ frame ! $ fjoin ! $ pureI ! (at-slice S (ref (wordsTo ys ws (m first ys ws))) (slice-vals (ref ws))) (tt, (tt, tt)) (ap (λ (k : ℕ). sliceVal (b₁, o₁) k ∷ []) (sym long), subst (Room S) (sym long) room₁) $
+      fjoin ! $ nothing ! $ move ! (1 ∷ 0 ∷ []) $ fjoin ! $ nothing ! $ fjoin ! $ nothing ! $ fjoin ! $ frame ! $ owned ! (byte .row) (Is (byte .row)) (byte .makes 𝓤 H A W) nr _ is-r $ done !))))))))
 
 pub shift-words-spec : {M : Type 1} → stated.statement M
 unfolding code.routine tablesOf
@@ -162,5 +167,9 @@ shift-words-spec 𝓤 H 𝓜 𝓖 𝓡 =
     proves 𝓤 H 𝓜 𝓖 𝓡 code.env shift-words.ended stayed (shift-words.clauses 𝓤 H (𝓖 .A) (𝓜 .mem) (𝓡 .run)) (goes-dropped 𝓤 H (𝓖 .A) W 2 (shrSliceOf (0 ∷ []) tt (plain (λ _. R))) yes (λ κs x f. refl), (goes-dropped 𝓤 H (𝓖 .A) W 2 (plain (λ _. byte .row)) yes (λ κs x f. refl), (goes-slice 𝓤 H (𝓖 .A) W 2 1 tt (plain (λ _. S)), tt)))
     key.name code.function (code.unfolded 𝓤 H 𝓜 𝓡) (λ κs. (slice-vals, ((λ n. byte .val n ∷ []), (slice-vals, tt)))) (λ κs. (shr-slice-tells (named 0) (κs .0) R, (byte .tells, (mut-slice-tells (named 1) (κs .1 .0) S, tt))))
     (λ κs qs bounds a g are. via 𝓤 _ (fst∗ 𝓤 _ (emp 𝓤)) (walk 𝓤 H (𝓖 .A) W (𝓜 .mem) (𝓡 .run) (κs .0) (κs .1 .0) (qs .0) (qs .1 .0) (a .0 .ptr .0) (a .0 .ptr .1) (a .0 .name) (a .0 .now) (a .1 .0) (a .1 .1 .0 .ptr .0) (a .1 .1 .0 .ptr .1) (a .1 .1 .0 .name) (a .1 .1 .0 .now) (tablesOf 𝓤 H 𝓜 (tables 𝓤 H 𝓜 𝓡 code.env))
-    (cited 𝓤 H _ 𝓜 𝓡 code.env look-def.name look-def.routine code.calls-pass·to-pass-in (look-thm.met 𝓤 H 𝓜 𝓖 𝓡)) (cited 𝓤 H _ 𝓜 𝓡 code.env none-def.name none-def.routine code.calls-pass·Widths·new (none-thm.met 𝓤 H 𝓜 𝓖 𝓡))
-    (cited 𝓤 H _ 𝓜 𝓡 code.env also-def.name also-def.routine code.calls-pass·Widths·with (also-thm.met 𝓤 H 𝓜 𝓖 𝓡)) (cited 𝓤 H _ 𝓜 𝓡 code.env last-def.name last-def.routine code.calls-pass·found (last-thm.met 𝓤 H 𝓜 𝓖 𝓡)) (are .0 .0 .1) (are .1 .0) (are .1 .1 .0 .0 .1)))
+    (record {
+      look = cited 𝓤 H _ 𝓜 𝓡 code.env look-def.name look-def.routine code.calls-pass·to-pass-in (look-thm.met 𝓤 H 𝓜 𝓖 𝓡);
+      new = cited 𝓤 H _ 𝓜 𝓡 code.env none-def.name none-def.routine code.calls-pass·Widths·new (none-thm.met 𝓤 H 𝓜 𝓖 𝓡);
+      also = cited 𝓤 H _ 𝓜 𝓡 code.env also-def.name also-def.routine code.calls-pass·Widths·with (also-thm.met 𝓤 H 𝓜 𝓖 𝓡);
+      last = cited 𝓤 H _ 𝓜 𝓡 code.env last-def.name last-def.routine code.calls-pass·found (last-thm.met 𝓤 H 𝓜 𝓖 𝓡);
+    }) (are .0 .0 .1) (are .1 .0) (are .1 .1 .0 .0 .1)))

@@ -101,6 +101,7 @@ segmentRows =
     ∷ (map (λ i. brightnessOf (afterWords powerUp (0x0441 ∷ 0x1321 ∷ [])) i) (5 ∷ 6 ∷ 7 ∷ 14 ∷ []), 1 ∷ 2 ∷ 3 ∷ 1 ∷ [])
     -- request 5: digits of dark cathodes have 0, in shutdown and above a scan limit of 3, "a" digits too; test lights all
     ∷ (map (λ i. brightnessOf (taken powerUp 0x020A) i) (0 ∷ 7 ∷ 8 ∷ 15 ∷ []), 0 ∷ 0 ∷ 0 ∷ 0 ∷ [])
+    ∷ (map (λ i. brightnessOf (afterWords powerUp (0x0440 ∷ 0x10FF ∷ [])) i) (0 ∷ 1 ∷ []), 0 ∷ 0 ∷ [])
     ∷ (map (λ i. brightnessOf (afterWords powerUp (0x0401 ∷ 0x020A ∷ 0x0303 ∷ [])) i) (3 ∷ 4 ∷ 8 ∷ 11 ∷ 12 ∷ 15 ∷ []), 11 ∷ 0 ∷ 11 ∷ 11 ∷ 0 ∷ 0 ∷ [])
     ∷ (map (λ i. brightnessOf (afterWords powerUp (0x0701 ∷ 0x0300 ∷ [])) i) (0 ∷ 7 ∷ 15 ∷ []), 7 ∷ 7 ∷ 7 ∷ [])
     -- what rules, lit or dark: I=0 the global register, I=1 the digit's own, test over both

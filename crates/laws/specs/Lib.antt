@@ -1,2 +1,3 @@
 pub mod DriverLaws
 pub mod ChainLaws
+pub mod SlippedAccess

@@ -1,0 +1,220 @@
+-- The proof of `specs/SlippedAccess.antt`'s laws: an access of at least 16n clocks shifts every old bit out, and a word taken decides shift word and mark.
+-- Assumes nothing.
+use Prim.Native.Nat.{ℕ, zero, suc, _-_, _*_, _≤_, _<_}
+use native.Mathlib.Nat.{le-of-suc-le-suc, not-suc-le-zero}
+use native.Mathlib.Omega.{arith}
+use mathlib.Core.Bool.{Bool, true, false}
+use mathlib.Core.List.{List, [], _∷_, _++_, map, append-assoc}
+use mathlib.Core.Path.{_≡_, refl, sym, ap, _∙_}
+use lib.Dec.{ltb}
+use lib.ListN.{length, take, drop, getD, replicate, length-map}
+use lib.Seq.{drop-at, take-at}
+use borrow.Author.Tests.{eqb-true}
+use Rattle.ground.specs.Lists.{tabulate}
+use Rattle.ground.proofs.Lists.{tabulate-ext}
+use Rattle.ground.proofs.Truth.{and-left, and-right}
+use Rattle.refusals.specs.Refusals.{bytesFor}
+use Rattle.words.specs.Addresses.{wordOf}
+use Rattle.words.specs.declared.Word.{Word}
+use Rattle.words.specs.declared.Word.the-variants.{Write, Read}
+use Rattle.wire.specs.Bits.{bits, value, unpack, wordAt}
+use Rattle.wire.specs.Wire.{string, words, wire, answer, shifted}
+use Rattle.wire.proofs.BitLaws.{unpack-append}
+use Rattle.wire.proofs.LineLaws.{length-string, length-answer}
+use Rattle.wire.proofs.WholeLaws.{whole, word-shifted, answer-front, sent-last}
+use Rattle.registers.specs.Sound.{soundRegisters}
+use Rattle.device.specs.PowerUp.{powerUp}
+use Rattle.device.specs.Record.{withShift, withMark}
+use Rattle.device.specs.Sound.{soundOf}
+use Rattle.device.specs.Taken.{taken, obeyed}
+use Rattle.device.specs.declared.Device.{Device}
+use Rattle.calls.specs.Calls.{Call, access}
+use Rattle.calls.specs.CallRefusals.{allSound}
+use Rattle.calls.specs.Served.{recordOf, shiftWords, allTaken}
+use Rattle.calls.specs.Outcome.{number, after, reply}
+use Rattle.calls.specs.CallLists.{afterAll}
+use Rattle.calls.specs.NextAccess.{wordTaken}
+use Rattle.calls.specs.AnswerMark.{marks}
+use Rattle.calls.proofs.Accepted.{zero-says, number-alone, after-zero, reply-zero, sent-enough}
+use Rattle.calls.proofs.Answered.{taken-at}
+use Rattle.calls.proofs.Records.{length-afterAll}
+use Rattle.calls.proofs.Sound.{all-sound}
+use Rattle.laws.specs.SlippedAccess.{Whole, lastWord, Alike, AllAlike, shiftCleared, SlippedAccess, SlipExamples}
+
+-- a list of calls with one more
+after-last : (qs : List Call) (q : Call) (ds : List Device) → afterAll (qs ++ q ∷ []) ds ≡ after q (afterAll qs ds)
+unfolding afterAll
+after-last [] q ds = refl
+after-last (p ∷ qs) q ds = after-last qs q (after p ds)
+
+-- what a driver takes decides its shift word and mark
+taken-apart : (d : Device) (s m w : ℕ) → taken (withMark (withShift d s) m) w ≡ taken d w
+unfolding taken
+taken-apart d s m w = go (wordOf w)
+  where
+    go : (o : Word) → obeyed (withShift (withMark (withShift d s) m) w) o ≡ obeyed (withShift d w) o
+    go (Write r v) = refl
+    go (Read r) = refl
+
+taken-alike : (d e : Device) (w : ℕ) → Alike d e → taken d w ≡ taken e w
+taken-alike d e w a = sym (taken-apart d (e .shift) (e .«answer_mark») w) ∙ ap (λ (x : Device). taken x w) a
+
+-- alike chains, at one place
+alike-length : (ds es : List Device) → AllAlike ds es → length ds ≡ length es
+unfolding AllAlike
+alike-length [] [] a = refl
+alike-length [] (e ∷ es) a = absurd a
+alike-length (d ∷ ds) [] a = absurd a
+alike-length (d ∷ ds) (e ∷ es) a = ap suc (alike-length ds es (a .1))
+
+alike-at : (ds es : List Device) → AllAlike ds es → (k : ℕ) → k < length ds → Alike (getD ds k powerUp) (getD es k powerUp)
+unfolding AllAlike
+alike-at [] [] a k h = absurd (not-suc-le-zero h)
+alike-at [] (e ∷ es) a k h = absurd a
+alike-at (d ∷ ds) [] a k h = absurd a
+alike-at (d ∷ ds) (e ∷ es) a zero h = a .0
+alike-at (d ∷ ds) (e ∷ es) a (suc k) h = alike-at ds es (a .1) k (le-of-suc-le-suc h)
+
+-- the same words taken by alike chains
+all-alike : (ds es : List Device) (ws : List ℕ) → AllAlike ds es → allTaken ds ws ≡ allTaken es ws
+all-alike ds es ws a =
+    tabulate-ext (length ds) _ _ (λ k h. taken-alike (getD ds k powerUp) (getD es k powerUp) (getD ws k 0) (alike-at ds es a k h))
+    ∙ rw (alike-length ds es a)
+
+length-words : (ds : List Device) → length (shiftWords ds) ≡ length ds
+length-words ds = length-map ds (λ (d : Device). d .shift)
+
+module _ (c : ℕ) (sent room : List ℕ) where
+  -- an accepted access, on sound records
+  access-zero : (ds : List Device) → allSound ds ≡ true → Whole (length ds) c sent room → number (access c sent room) ds ≡ 0
+  access-zero ds s w = number-alone (length ds) (access c sent room) ds refl s refl ∙ eqb-true _ 0 (w .served)
+
+  -- has enough bytes sent
+  enough-sent : (n : ℕ) → Whole n c sent room → bytesFor c ≤ length sent
+  enough-sent n w = sent-enough c (length sent) (length room) (zero-says n true 0 (access c sent room) (eqb-true _ 0 (w .served)) .bytes)
+
+  -- the new words, whatever the old ones
+  same-words : (ds es : List Device) → length ds ≡ length es → Whole (length ds) c sent room → shifted (shiftWords ds) sent c ≡ shifted (shiftWords es) sent c
+  same-words ds es l w =
+      let f = enough-sent (length ds) w in
+      let a = length-words ds in
+      let b = length-words es in
+      let g = w .clocks in
+      rw (whole .new-words (shiftWords ds) sent c (omega arith) (omega arith), whole .new-words (shiftWords es) sent c (omega arith) (omega arith), a, b, l)
+
+  -- driver i's
+  last-taken : (ds : List Device) → Whole (length ds) c sent room → (i : ℕ) → 1 ≤ i → i ≤ length ds → wordTaken ds c sent i ≡ lastWord (length ds) i c sent
+  last-taken ds w i h g =
+      let ws = shiftWords ds in
+      let f = enough-sent (length ds) w in
+      let a = length-words ds in
+      let e = w .clocks in
+      let k : length ws - 1 - (i - 1) ≡ length ds - i = omega arith in
+      word-shifted ws sent c (i - 1) (omega arith)
+      ∙ rw (k, sent-last ws sent c (omega arith) (omega arith), a)
+
+  -- the lent bytes after the access: the old string, and what doesn't depend on it
+  abbrev later : ℕ → List Bool
+  later n = take (8 * bytesFor c - 16 * n) (take (c - 16 * n) (take c (unpack sent)) ++ replicate 8 false) ++ unpack (drop (bytesFor c) room)
+
+  reply-bits : (ds : List Device) → allSound ds ≡ true → Whole (length ds) c sent room
+      → unpack (reply (access c sent room) ds) ≡ string (shiftWords ds) ++ later (length ds)
+  reply-bits ds s w =
+      let ws = shiftWords ds in
+      let f = enough-sent (length ds) w in
+      let a = length-words ds in
+      let e = w .clocks in
+      let l : length (string ws) ≡ 16 * length ds = length-string ws ∙ ap (λ (n : ℕ). 16 * n) a in
+      ap unpack (reply-zero (access c sent room) ds (access-zero ds s w))
+      ∙ rw (unpack-append, answer-front ws sent c (omega arith) (omega arith), l, append-assoc)
+
+  later-bits : (ds : List Device) → allSound ds ≡ true → Whole (length ds) c sent room
+      → drop (16 * length ds) (unpack (reply (access c sent room) ds)) ≡ later (length ds)
+  later-bits ds s w =
+      ap (drop (16 * length ds)) (reply-bits ds s w)
+      ∙ drop-at (string (shiftWords ds)) (later (length ds)) (16 * length ds) (length-string (shiftWords ds) ∙ ap (λ (n : ℕ). 16 * n) (length-words ds))
+
+  first-bits : (ds : List Device) → allSound ds ≡ true → Whole (length ds) c sent room
+      → take (16 * length ds) (unpack (reply (access c sent room) ds)) ≡ string (shiftWords ds)
+  first-bits ds s w =
+      ap (take (16 * length ds)) (reply-bits ds s w)
+      ∙ take-at (string (shiftWords ds)) (later (length ds)) (16 * length ds) (length-string (shiftWords ds) ∙ ap (λ (n : ℕ). 16 * n) (length-words ds))
+
+  bytes-after : (ds : List Device) → allSound ds ≡ true → Whole (length ds) c sent room
+      → drop (bytesFor c) (reply (access c sent room) ds) ≡ drop (bytesFor c) room
+  bytes-after ds s w =
+      let f = enough-sent (length ds) w in
+      ap (drop (bytesFor c)) (reply-zero (access c sent room) ds (access-zero ds s w))
+      ∙ drop-at (answer (shiftWords ds) sent c) (drop (bytesFor c) room) (bytesFor c) (length-answer (shiftWords ds) sent c (omega arith))
+
+  wholly-alike : (ds es : List Device) → allSound ds ≡ true → allSound es ≡ true → AllAlike ds es → Whole (length ds) c sent room
+      → after (access c sent room) ds ≡ after (access c sent room) es
+  wholly-alike ds es s t a w =
+      let q = access c sent room in
+      let l = alike-length ds es a in
+      let w′ : Whole (length es) c sent room = rw l at w in
+      after-zero q ds (access-zero ds s w)
+      ∙ all-alike ds es (shifted (shiftWords ds) sent c) a
+      ∙ ap (allTaken es) (same-words ds es l w)
+      ∙ sym (after-zero q es (access-zero es t w′))
+
+  word-taken : (ds : List Device) (qs : List Call) → allSound ds ≡ true → Whole (length ds) c sent room → (i : ℕ) → 1 ≤ i → i ≤ length ds
+      → recordOf (afterAll (qs ++ access c sent room ∷ []) ds) i ≡ taken (recordOf (afterAll qs ds) i) (lastWord (length ds) i c sent)
+  word-taken ds qs s w i h g =
+      let q = access c sent room in
+      let es = afterAll qs ds in
+      let l : length es ≡ length ds = length-afterAll qs ds in
+      let w′ : Whole (length es) c sent room = rw (sym l) at w in
+      let g′ : i ≤ length es = rw l g in
+      ap (λ (xs : List Device). recordOf xs i) (after-last qs q ds ∙ after-zero q es (access-zero es (all-sound qs ds s) w′))
+      ∙ taken-at es i h g′ c sent room
+      ∙ ap (taken (recordOf es i)) (last-taken es w′ i h g′ ∙ ap (λ (n : ℕ). lastWord n i c sent) l)
+
+  same-word : (ds es : List Device) (ps qs : List Call) → length ds ≡ length es → Whole (length ds) c sent room → (i : ℕ) → 1 ≤ i → i ≤ length ds
+      → wordTaken (afterAll ps ds) c sent i ≡ wordTaken (afterAll qs es) c sent i
+  same-word ds es ps qs l w i h g =
+      let a : length (afterAll ps ds) ≡ length ds = length-afterAll ps ds in
+      let b : length (afterAll qs es) ≡ length es = length-afterAll qs es in
+      ap (λ (ws : List ℕ). getD ws (i - 1) 0) (same-words (afterAll ps ds) (afterAll qs es) (a ∙ l ∙ sym b) (rw (sym a) at w))
+
+-- a chain with shift words 0 and marks cleared
+cleared-alike : (ds : List Device) → AllAlike ds (map shiftCleared ds)
+unfolding AllAlike
+cleared-alike [] = tt
+cleared-alike (d ∷ ds) = (refl, cleared-alike ds)
+
+cleared-words : (ds : List Device) → shiftWords (map shiftCleared ds) ≡ replicate (length ds) 0
+cleared-words [] = refl
+cleared-words (d ∷ ds) = ap (λ (ws : List ℕ). 0 ∷ ws) (cleared-words ds)
+
+cleared-marks : (ds : List Device) → marks (map shiftCleared ds) ≡ replicate (length ds) 0
+cleared-marks [] = refl
+cleared-marks (d ∷ ds) = ap (λ (ws : List ℕ). 0 ∷ ws) (cleared-marks ds)
+
+cleared-sound : (ds : List Device) → allSound ds ≡ true → allSound (map shiftCleared ds) ≡ true
+unfolding allSound
+cleared-sound [] s = refl
+cleared-sound (d ∷ ds) s =
+    let r = and-left (soundOf d) (allSound ds) s in
+    rw (and-left (soundRegisters (d .registers)) (ltb (d .«answer_mark») 2) r, cleared-sound ds (and-right (soundOf d) (allSound ds) s))
+
+pub slipped-access : SlippedAccess
+slipped-access =
+    record {
+      word-taken = λ ds qs c sent room. word-taken c sent room ds qs;
+      same-word = λ ds es ps qs c sent room. same-word c sent room ds es ps qs;
+      wholly-alike = λ ds es c sent room. wholly-alike c sent room ds es;
+      later-bits = λ ds es c sent room s t l w.
+          later-bits c sent room ds s w ∙ ap (later c sent room) l
+          ∙ sym (ap (λ (n : ℕ). drop (16 * n) (unpack (reply (access c sent room) es))) l ∙ later-bits c sent room es t (rw l at w));
+      first-bits = λ ds c sent room. first-bits c sent room ds;
+      bytes-after = λ ds c sent room. bytes-after c sent room ds;
+      as-cleared = λ ds c sent room s w. wholly-alike c sent room ds (map shiftCleared ds) s (cleared-sound ds s) (cleared-alike ds) w;
+      cleared-alike = cleared-alike;
+      cleared-words = cleared-words;
+      cleared-marks = cleared-marks;
+    }
+
+pub slip-examples : SlipExamples
+unfolding tabulate bits value unpack wordAt string words wire shifted taken allSound number after afterAll
+slip-examples = refl

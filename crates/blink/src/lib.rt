@@ -11,8 +11,8 @@ ghost use Rattle.blink.specs.PartDigits.{PartDigits};
 use words::Plane;
 
 // What is left of clocks when whole cycles of 4,000,000 are taken off in so many steps: where they fit, half of all that would be too many, then half as many.
-fn in_cycle(clocks: u64, steps: u32) -> u64
-    requires { ⌜ (steps ≤ 12) × (clocks < 4000000 * 2 ^ steps) ⌝ }
+fn in_cycle(clocks: u32, steps: u32) -> u32
+    requires { ⌜ (steps ≤ 11) × (clocks < 4000000 * 2 ^ steps) ⌝ }
     ensures { λ r. ⌜ r ≡ clocks % 4000000 ⌝ }
 {
     let mut left = clocks;
@@ -27,14 +27,18 @@ fn in_cycle(clocks: u64, steps: u32) -> u64
     left
 }
 
-// What is left of 32 bits of clocks.
-fn clocks_in_cycle(clocks: u32) -> u64
-    ensures { λ r. ⌜ r ≡ clocks % 4000000 ⌝ }
+// The first two of 12 steps, whose cycles don't fit 32 bits: 2,048 cycles are taken off, or 1,024, where they fit.
+fn in_1024_cycles(clocks: u64) -> u32
+    requires { ⌜ clocks < 2 ^ 33 ⌝ }
+    ensures { λ r. ⌜ (r < 4000000 * 2 ^ 10) × (r % 4000000 ≡ clocks % 4000000) ⌝ }
 {
-    if clocks < 4000000 {
-        return clocks as u64;
+    if 8192000000 <= clocks {
+        return (clocks - 8192000000) as u32;
     }
-    in_cycle(clocks as u64, 11)
+    if 4096000000 <= clocks {
+        return (clocks - 4096000000) as u32;
+    }
+    clocks as u32
 }
 
 // Master clocks added to a count, in at most 12 steps. Where the count is below a cycle, the clocks are brought below one before they are added, so
@@ -43,10 +47,12 @@ pub fn advanced(count: u32, clocks: u32) -> u32
     ensures { λ r. ⌜ r ≡ advanced count clocks ⌝ }
 {
     if 4000000 <= count {
-        return in_cycle(count as u64 + clocks as u64, 12) as u32;
+        return in_cycle(in_1024_cycles(count as u64 + clocks as u64), 10);
     }
-    let more = clocks_in_cycle(clocks);
-    in_cycle(count as u64 + more, 1) as u32
+    if 4000000 <= clocks {
+        return in_cycle(count + in_cycle(clocks, 11), 1);
+    }
+    in_cycle(count + clocks, 1)
 }
 
 // The lowest bit of a byte.

@@ -9,16 +9,16 @@ use Rattle.blink.proofs.in_cycle.Statement.{statement}
 use Rattle.blink.proofs.in_cycle.Tie as tie
 
 abbrev Inv-loop : tie.InvT-loop
-Inv-loop clocks steps left₀ k₀ left k = (k ≤ 12) × (left < 4000000 * 2 ^ k) × (left % 4000000 ≡ clocks % 4000000)
+Inv-loop clocks steps left₀ k₀ left k = (k ≤ 11) × (left < 4000000 * 2 ^ k) × (left % 4000000 ≡ clocks % 4000000)
 
 abbrev μ-loop : tie.MeasureT-loop
 μ-loop clocks steps left₀ k₀ left k = k
 
--- 2^k cycles are twice as many as 2^(k - 1), which fit 64 bits
-cycles : (k : ℕ) → 0 < k → k ≤ 12 → (2 ^ k ≡ 2 ^ (k - 1) * 2) × (4000000 * 2 ^ (k - 1) % 18446744073709551616 ≡ 4000000 * 2 ^ (k - 1))
+-- 2^k cycles are twice as many as 2^(k - 1), which fit 32 bits
+cycles : (k : ℕ) → 0 < k → k ≤ 11 → (2 ^ k ≡ 2 ^ (k - 1) * 2) × (4000000 * 2 ^ (k - 1) % 4294967296 ≡ 4000000 * 2 ^ (k - 1))
 cycles k some most =
     let e : suc (k - 1) ≡ k = omega arith in
-    let h : 2 ^ (k - 1) ≤ 2 ^ 11 = pow-mono {j = 11} (omega arith) in
+    let h : 2 ^ (k - 1) ≤ 2 ^ 10 = pow-mono {j = 10} (omega arith) in
     (rw e at (pow-suc 2 (k - 1)), mod-eq-of-lt (omega (arith, h)))
 
 loop-again : tie.Need-loop-again Inv-loop μ-loop
@@ -47,7 +47,6 @@ in-cycle-spec =
     Inv-loop
     μ-loop
     (λ c. (omega arith, search needs, refl))
-    (λ c. search needs)
     (λ c. search needs)
     (λ c. search needs)
     (λ c. search needs)

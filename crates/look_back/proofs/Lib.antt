@@ -1,0 +1,4 @@
+pub mod PlaceLaws
+pub mod MaskLaws
+pub mod TakenLaws
+pub mod Bench

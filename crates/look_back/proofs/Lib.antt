@@ -1,4 +1,5 @@
 pub mod PlaceLaws
 pub mod MaskLaws
 pub mod TakenLaws
+pub mod Typed
 pub mod Bench

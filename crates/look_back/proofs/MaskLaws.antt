@@ -4,9 +4,11 @@ use Prim.Native.Nat.{ℕ, _+_, _*_, _/_, _%_, _^_, _<_}
 use native.Mathlib.Nat.{mod-lt, zero-lt-suc}
 use native.Mathlib.Omega.{arith}
 use mathlib.Core.Bool.{Bool, true, false, not, _&&_, _||_, Bool·beq}
+use mathlib.Core.List.{List}
 use mathlib.Core.Path.{_≡_, refl, sym, ap, ap₂, _∙_}
 use lib.Bits.{bitAnd, and-block, and-le-r, and-zero-r}
 use lib.Dec.{eqb}
+use lib.ListN.{getD}
 use borrow.Author.Tests.{eqb-true, eqb-false, eq-eqb, ne-eqb}
 use Rattle.ground.specs.Choice.{bit}
 use Rattle.ground.proofs.Below.{all, all-at}
@@ -14,8 +16,9 @@ use Rattle.ground.proofs.Bits.{high-bit, low-bit}
 use Rattle.ground.proofs.Truth.{same}
 use Rattle.words.specs.declared.Plane.{Plane}
 use Rattle.words.specs.declared.Plane.the-variants.{P0, P1}
-use Rattle.look_back.specs.Stops.{firstAddress, writesTo, writesByte, clearsPlanes, stops}
+use Rattle.look_back.specs.Stops.{firstAddress, writesTo, writesByte, clearsPlanes, stops, lastPlace, stoppingPlace}
 use Rattle.look_back.specs.Masks.{maskOf, patternOf, stopsUnder}
+use Rattle.look_back.proofs.PlaceLaws.{place-ext}
 
 -- numbers of two bytes are equal where both bytes are
 two-bytes : (x y a b : ℕ) → y < 256 → b < 256 → eqb (x * 256 + y) (a * 256 + b) ≡ (eqb x a && eqb y b)
@@ -88,3 +91,7 @@ module _ (w : ℕ) (fits : w < 65536) where
   -- the masks find what stops
   pub masks-stop : (p : Plane) (i : ℕ) → i < 16 → stopsUnder (maskOf p) (patternOf p i) w ≡ stops p i w
   masks-stop p i l = ap₂ _||_ (digit-test p i l) clear-test
+
+-- so the place that they find in a list of words is the stopping place
+pub masks-place : (p : Plane) (i : ℕ) (ws : List ℕ) → i < 16 → ((k : ℕ) → getD ws k 0 < 65536) → lastPlace (stopsUnder (maskOf p) (patternOf p i)) ws ≡ stoppingPlace p i ws
+masks-place p i ws l fits = place-ext (stopsUnder (maskOf p) (patternOf p i)) (stops p i) ws (λ k h. masks-stop (getD ws k 0) (fits k) p i l)

@@ -30,6 +30,17 @@ module _ (f : ℕ → Bool) where
   pub goes-on : (ws : List ℕ) (k : ℕ) → k < length ws → f (getD ws k 0) ≡ false → lastPlace f (take (suc k) ws) ≡ lastPlace f (take k ws)
   goes-on ws k h e = rw (take-suc ws k 0 h) (snoc-goes (take k ws) (getD ws k 0) e)
 
+  -- it is a place of the list
+  pub place-le : (ws : List ℕ) → lastPlace f ws ≤ length ws
+  unfolding lastPlace
+  place-le [] = omega arith
+  place-le (w ∷ ws) = go (f w) (lastPlace f ws) (place-le ws)
+    where
+      go : (b : Bool) (n : ℕ) → n ≤ length ws → placeBefore b n ≤ length (w ∷ ws)
+      go b (suc n) h = omega (arith, h)
+      go true zero h = omega arith
+      go false zero h = omega arith
+
   -- the test holds at the place, and at none after it
   pub holds-there : (ws : List ℕ) (m : ℕ) → lastPlace f ws ≡ suc m → f (getD ws m 0) ≡ true
   unfolding lastPlace

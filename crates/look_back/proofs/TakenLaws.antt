@@ -224,11 +224,21 @@ module _ (p : Plane) (i : ℕ) (k : i < 16) where
       ∙ ap (byteBy (stoppingPlace p i ws) ws) e
       ∙ byte-more (stoppingPlace p i ws) (stops p i w) w ws (byteOf d p i)
 
--- the theorem, by the byte that the stopping place decides
+-- planes are sixteen digits
 sized : (p : Plane) (d : Device) → Sized (d .registers .planes) → length (planeOf (d .registers .planes) p) ≡ 16
 sized P0 d z = z .first
 sized P1 d z = z .second
 
+-- by a place that was found to be the stopping place
+pub looked-by : (p : Plane) (i : ℕ) → i < 16 → (ws : List ℕ) (d : Device) → Sized (d .registers .planes) → (n : ℕ) → n ≡ stoppingPlace p i ws → byteBy n ws (byteOf d p i) ≡ byteAfter d p i ws
+looked-by p i k ws d z n e = ap (λ (m : ℕ). byteBy m ws (byteOf d p i)) e ∙ sym (looked p i k ws d (sized p d z))
+
+-- the byte that the word at a place leaves
+pub byte-at : (n : ℕ) (ws : List ℕ) (held : ℕ) → 0 < n → byteBy n ws held ≡ leftBy (getD ws (n - 1) 0)
+byte-at zero ws held h = absurd (omega arith)
+byte-at (suc n) ws held h = let e : suc n - 1 ≡ n = omega arith in rw e
+
+-- the theorem, by the byte that the stopping place decides
 stops-there : (p : Plane) (i : ℕ) (ws : List ℕ) → 0 < stoppingPlace p i ws → stops p i (getD ws (stoppingPlace p i ws - 1) 0) ≡ true
 stops-there p i ws h = holds-there (stops p i) ws (stoppingPlace p i ws - 1) (omega arith)
 

@@ -1,65 +1,70 @@
+-- `look_back::looked` meets its contract: the place that the masks find is the stopping place, and it decides the byte. Assumes nothing.
+use Prim.Native.Nat.{_≤_}
+use native.Mathlib.Omega.{arith}
+use mathlib.Core.Path.{_≡_, sym, _∙_}
+use lib.ListN.{length}
 use borrow.Author.Needs.{needs}
+use Rattle.look_back.specs.LookBack.{planeNumbered}
+use Rattle.look_back.specs.Stops.{stoppingPlace}
+use Rattle.look_back.specs.Masks.{stopsUnder}
+use Rattle.look_back.proofs.PlaceLaws.{place-le}
+use Rattle.look_back.proofs.MaskLaws.{masks-place}
+use Rattle.look_back.proofs.TakenLaws.{looked-by, byte-at}
+use Rattle.look_back.proofs.Typed.{sized-planes}
 use Rattle.look_back.proofs.looked.Statement.{statement}
 use Rattle.look_back.proofs.looked.Tie as tie
-use Rattle.look_back.proofs.looked.Reads as reads
-use Rattle.look_back.proofs.looked.Lts as lts
-use Rattle.look_back.proofs.held.Reads as held-reads
-use Rattle.look_back.proofs.left_by.Reads as left-by-reads
-use Rattle.look_back.proofs.mask.Reads as mask-reads
-use Rattle.look_back.proofs.pattern.Reads as pattern-reads
-use Rattle.look_back.proofs.stopping_place.Reads as stopping-place-reads
 
--- src/lib.rt:82:39
-mask-requires : tie.Need-mask-requires
-mask-requires c κs = search needs
-
--- src/lib.rt:82:52
-pattern-requires : tie.Need-pattern-requires
-pattern-requires c κs = search needs
-
--- src/lib.rt:82:9
-stopping-place-requires : tie.Need-stopping-place-requires
-stopping-place-requires c κs = search needs
-
--- src/lib.rt:84:23
-sub-left-by : tie.Need-sub-left-by
-sub-left-by c = search needs
-
--- src/lib.rt:84:17
 mul-left-by : tie.Need-mul-left-by
-mul-left-by c = ?
+mul-left-by c =
+    let s = c .before .before .before .before .before .args in
+    let f = stopsUnder (c .before .before .before .mask .result) (c .before .before .pattern .result) in
+    let h : c .before .stopping-place .result ≤ length (s .words .now) = rw (c .before .stopping-place .ensures) (place-le f (s .words .now)) in
+    omega arith
 
--- src/lib.rt:84:17
 shared-slice-read-left-by : tie.Need-shared-slice-read-left-by
-shared-slice-read-left-by c = ?
+shared-slice-read-left-by c =
+    let s = c .before .before .before .before .before .before .args in
+    let f = stopsUnder (c .before .before .before .before .mask .result) (c .before .before .before .pattern .result) in
+    let h : c .before .before .stopping-place .result ≤ length (s .words .now) = rw (c .before .before .stopping-place .ensures) (place-le f (s .words .now)) in
+    omega arith
 
--- src/lib.rt:84:9
-left-by-requires : tie.Need-left-by-requires
-left-by-requires c κs = search needs
-
--- src/lib.rt:86:9
-held-requires : tie.Need-held-requires
-held-requires c κs = search needs
-
--- src/lib.rt:78:1
 returns : tie.Need-returns
-returns c = ?
+returns c =
+    let s = c .before .before .before .before .before .before .before in
+    let a = s .args in
+    let p = planeNumbered (a .plane) in
+    let n = c .before .before .before .stopping-place .result in
+    let words = c .before .before .before .before .before .before .shared-slice-known .given in
+    let e : n ≡ stoppingPlace p (a .digit) (a .words .now) =
+        c .before .before .before .stopping-place .ensures
+        ∙ rw (c .before .before .before .before .before .mask .ensures, c .before .before .before .before .pattern .ensures) (masks-place p (a .digit) (a .words .now) (s .pre) (λ k. words k .fits)) in
+    let z = sized-planes (a .device) _ (s .good .0) in
+    c .left-by .ensures ∙ sym (byte-at n (a .words .now) _ (omega arith)) ∙ looked-by p (a .digit) (s .pre) (a .words .now) (a .device) z n e
 
--- src/lib.rt:78:1
 returns-2 : tie.Need-returns-2
-returns-2 c = ?
+returns-2 c =
+    let s = c .before .before .before .before .before .before in
+    let a = s .args in
+    let p = planeNumbered (a .plane) in
+    let words = c .before .before .before .before .before .shared-slice-known .given in
+    let e : c .before .before .stopping-place .result ≡ stoppingPlace p (a .digit) (a .words .now) =
+        c .before .before .stopping-place .ensures
+        ∙ rw (c .before .before .before .before .mask .ensures, c .before .before .before .pattern .ensures) (masks-place p (a .digit) (a .words .now) (s .pre) (λ k. words k .fits)) in
+    let g : 0 ≡ c .before .before .stopping-place .result = omega arith in
+    let z = sized-planes (a .device) _ (s .good .0) in
+    c .held .ensures ∙ looked-by p (a .digit) (s .pre) (a .words .now) (a .device) z 0 (g ∙ e)
 
 pub looked-spec : {M : Type 1} → statement M
 looked-spec =
     tie.close
     (tie.spec
-    mask-requires
-    pattern-requires
-    stopping-place-requires
-    sub-left-by
+    (λ c κs. search needs)
+    (λ c κs. search needs)
+    (λ c κs. search needs)
+    (λ c. search needs)
     mul-left-by
     shared-slice-read-left-by
-    left-by-requires
-    held-requires
+    (λ c κs. search needs)
+    (λ c κs. search needs)
     returns
     returns-2)

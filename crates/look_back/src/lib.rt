@@ -28,7 +28,11 @@ fn pattern(plane: usize, digit: usize) -> u16
     ensures { λ r. ⌜ r ≡ patternOf (planeNumbered plane) digit ⌝ }
 {
     let own = digit as u16 * 256;
-    if plane == 0 { 0x2000 + own } else { 0x4000 + own }
+    if plane == 0 {
+        0x2000 + own
+    } else {
+        0x4000 + own
+    }
 }
 
 // The word writes the byte, or is a configuration write with R=1.
@@ -56,7 +60,11 @@ fn stopping_place(words: &[u16], mask: u16, pattern: u16) -> usize
 fn left_by(word: u16) -> u8
     ensures { λ r. ⌜ r ≡ leftBy word ⌝ }
 {
-    if word / 256 % 128 == 4 { 0 } else { (word % 256) as u8 }
+    if word / 256 % 128 == 4 {
+        0
+    } else {
+        (word % 256) as u8
+    }
 }
 
 // The byte in a record.
@@ -97,10 +105,7 @@ pub fn look_back(device: Device, plane: usize, digit: usize, words: &[u16]) -> L
             byte: looked(device, plane, digit, words),
         }
     } else {
-        LookBackAnswer {
-            number: 6,
-            byte: 0,
-        }
+        LookBackAnswer { number: 6, byte: 0 }
     }
 }
 

@@ -36,8 +36,8 @@ returns c =
     let n = c .before .before .before .stopping-place .result in
     let words = c .before .before .before .before .before .before .shared-slice-known .given in
     let e : n ≡ stoppingPlace p (a .digit) (a .words .now) =
-        c .before .before .before .stopping-place .ensures
-        ∙ rw (c .before .before .before .before .before .mask .ensures, c .before .before .before .before .pattern .ensures) (masks-place p (a .digit) (a .words .now) (s .pre) (λ k. words k .fits)) in
+    c .before .before .before .stopping-place .ensures
+    ∙ rw (c .before .before .before .before .before .mask .ensures, c .before .before .before .before .pattern .ensures) (masks-place p (a .digit) (a .words .now) (s .pre) (λ k. words k .fits)) in
     let z = sized-planes (a .device) _ (s .good .0) in
     c .left-by .ensures ∙ sym (byte-at n (a .words .now) _ (omega arith)) ∙ looked-by p (a .digit) (s .pre) (a .words .now) (a .device) z n e
 
@@ -48,8 +48,8 @@ returns-2 c =
     let p = planeNumbered (a .plane) in
     let words = c .before .before .before .before .before .shared-slice-known .given in
     let e : c .before .before .stopping-place .result ≡ stoppingPlace p (a .digit) (a .words .now) =
-        c .before .before .stopping-place .ensures
-        ∙ rw (c .before .before .before .before .mask .ensures, c .before .before .before .pattern .ensures) (masks-place p (a .digit) (a .words .now) (s .pre) (λ k. words k .fits)) in
+    c .before .before .stopping-place .ensures
+    ∙ rw (c .before .before .before .before .mask .ensures, c .before .before .before .pattern .ensures) (masks-place p (a .digit) (a .words .now) (s .pre) (λ k. words k .fits)) in
     let g : 0 ≡ c .before .before .stopping-place .result = omega arith in
     let z = sized-planes (a .device) _ (s .good .0) in
     c .held .ensures ∙ looked-by p (a .digit) (s .pre) (a .words .now) (a .device) z 0 (g ∙ e)

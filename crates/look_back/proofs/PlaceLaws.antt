@@ -22,13 +22,13 @@ module _ (f : ℕ → Bool) where
   snoc-goes [] w h = rw h
   snoc-goes (x ∷ xs) w h = rw (snoc-goes xs w h)
 
-  -- the k + 1 first words, by the last of them
-  pub stops-at : (ws : List ℕ) (k : ℕ) → k < length ws → f (getD ws k 0) ≡ true → lastPlace f (take (suc k) ws) ≡ suc k
-  stops-at ws k h e =
-      rw (take-suc ws k 0 h) (snoc-stops (take k ws) (getD ws k 0) e ∙ ap suc (length-take-le k ws (omega arith)))
+  -- the first m words, by the last of them
+  pub stops-at : (ws : List ℕ) (k m : ℕ) → m ≡ suc k → m ≤ length ws → f (getD ws k 0) ≡ true → lastPlace f (take m ws) ≡ m
+  stops-at ws k m e h t =
+      rw (e, take-suc ws k 0 (omega arith)) (snoc-stops (take k ws) (getD ws k 0) t ∙ ap suc (length-take-le k ws (omega arith)))
 
-  pub goes-on : (ws : List ℕ) (k : ℕ) → k < length ws → f (getD ws k 0) ≡ false → lastPlace f (take (suc k) ws) ≡ lastPlace f (take k ws)
-  goes-on ws k h e = rw (take-suc ws k 0 h) (snoc-goes (take k ws) (getD ws k 0) e)
+  pub goes-on : (ws : List ℕ) (k m : ℕ) → m ≡ suc k → m ≤ length ws → f (getD ws k 0) ≡ false → lastPlace f (take m ws) ≡ lastPlace f (take k ws)
+  goes-on ws k m e h t = rw (e, take-suc ws k 0 (omega arith)) (snoc-goes (take k ws) (getD ws k 0) t)
 
   -- it is a place of the list
   pub place-le : (ws : List ℕ) → lastPlace f ws ≤ length ws

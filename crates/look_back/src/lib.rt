@@ -46,12 +46,13 @@ fn stops(word: u16, mask: u16, pattern: u16) -> bool
 fn stopping_place(words: &[u16], mask: u16, pattern: u16) -> usize
     ensures { λ r. ⌜ r ≡ lastPlace (stopsUnder mask pattern) (now (words .entry)) ⌝ }
 {
-    let mut k = words.len();
-    while 0 < k {
-        if stops(words[k - 1], mask, pattern) {
-            return k;
+    let n = words.len();
+    let mut i = 0;
+    while i < n {
+        if stops(words[n - 1 - i], mask, pattern) {
+            return n - i;
         }
-        k -= 1;
+        i += 1;
     }
     0
 }

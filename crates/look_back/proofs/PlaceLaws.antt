@@ -30,6 +30,11 @@ module _ (f : ℕ → Bool) where
   pub goes-on : (ws : List ℕ) (k m : ℕ) → m ≡ suc k → m ≤ length ws → f (getD ws k 0) ≡ false → lastPlace f (take m ws) ≡ lastPlace f (take k ws)
   goes-on ws k m e h t = rw (e, take-suc ws k 0 (omega arith)) (snoc-goes (take k ws) (getD ws k 0) t)
 
+  -- of no word
+  pub no-words : (ws : List ℕ) (m : ℕ) → m ≡ 0 → lastPlace f (take m ws) ≡ 0
+  unfolding lastPlace
+  no-words ws m e = rw e
+
   -- it is a place of the list
   pub place-le : (ws : List ℕ) → lastPlace f ws ≤ length ws
   unfolding lastPlace

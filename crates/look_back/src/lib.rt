@@ -42,17 +42,24 @@ fn stops(word: u16, mask: u16, pattern: u16) -> bool
     (word & mask == pattern) | (word & 0xFF20 == 0x0420)
 }
 
-// The place of the last word that stops, counted from 1, or 0. No word before that place is read.
+// The place of the last word that stops, counted from 1, or 0. No word before that place is read. A turn has two words, which is faster than one.
 fn stopping_place(words: &[u16], mask: u16, pattern: u16) -> usize
     ensures { λ r. ⌜ r ≡ lastPlace (stopsUnder mask pattern) (now (words .entry)) ⌝ }
 {
-    let n = words.len();
-    let mut i = 0;
-    while i < n {
-        if stops(words[n - 1 - i], mask, pattern) {
-            return n - i;
+    let mut k = words.len();
+    while 1 < k {
+        if stops(words[k - 1], mask, pattern) {
+            return k;
         }
-        i += 1;
+        if stops(words[k - 2], mask, pattern) {
+            return k - 1;
+        }
+        k -= 2;
+    }
+    if k == 1 {
+        if stops(words[0], mask, pattern) {
+            return 1;
+        }
     }
     0
 }

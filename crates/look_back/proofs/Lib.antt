@@ -1,5 +1,6 @@
 pub mod PlaceLaws
 pub mod MaskLaws
-pub mod TakenLaws
+pub mod PlaneLaws
+pub mod LookedLaws
 pub mod Typed
 pub mod Bench

@@ -1,7 +1,6 @@
 -- The test by two masks is the test for a stop: by a word's two bytes, at every high byte and digit.
 -- Assumes nothing.
-use Prim.Native.Nat.{ℕ, _+_, _*_, _/_, _%_, _^_, _<_}
-use native.Mathlib.Nat.{mod-lt, zero-lt-suc}
+use Prim.Native.Nat.{ℕ, _+_, _*_, _/_, _%_, _<_}
 use native.Mathlib.Omega.{arith}
 use mathlib.Core.Bool.{Bool, true, false, not, _&&_, _||_, Bool·beq}
 use mathlib.Core.List.{List}
@@ -93,5 +92,7 @@ module _ (w : ℕ) (fits : w < 65536) where
   masks-stop p i l = ap₂ _||_ (digit-test p i l) clear-test
 
 -- so the place that they find in a list of words is the stopping place
-pub masks-place : (p : Plane) (i : ℕ) (ws : List ℕ) → i < 16 → ((k : ℕ) → getD ws k 0 < 65536) → lastPlace (stopsUnder (maskOf p) (patternOf p i)) ws ≡ stoppingPlace p i ws
-masks-place p i ws l fits = place-ext (stopsUnder (maskOf p) (patternOf p i)) (stops p i) ws (λ k h. masks-stop (getD ws k 0) (fits k) p i l)
+pub masks-place : (p : Plane) (i : ℕ) (ws : List ℕ) → i < 16 → ((k : ℕ) → getD ws k 0 < 65536) → (n mask pattern : ℕ)
+    → mask ≡ maskOf p → pattern ≡ patternOf p i → n ≡ lastPlace (stopsUnder mask pattern) ws → n ≡ stoppingPlace p i ws
+masks-place p i ws l fits n mask pattern e g h =
+    h ∙ rw (e, g) (place-ext (stopsUnder (maskOf p) (patternOf p i)) (stops p i) ws (λ k _. masks-stop (getD ws k 0) (fits k) p i l))

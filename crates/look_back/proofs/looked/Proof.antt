@@ -5,11 +5,10 @@ use mathlib.Core.Path.{_≡_, sym, _∙_}
 use lib.ListN.{length}
 use borrow.Author.Needs.{needs}
 use Rattle.look_back.specs.LookBack.{planeNumbered}
-use Rattle.look_back.specs.Stops.{stoppingPlace}
 use Rattle.look_back.specs.Masks.{stopsUnder}
 use Rattle.look_back.proofs.PlaceLaws.{place-le}
 use Rattle.look_back.proofs.MaskLaws.{masks-place}
-use Rattle.look_back.proofs.TakenLaws.{looked-by, byte-at}
+use Rattle.look_back.proofs.LookedLaws.{looked-by, byte-at}
 use Rattle.look_back.proofs.Typed.{sized-planes}
 use Rattle.look_back.proofs.looked.Statement.{statement}
 use Rattle.look_back.proofs.looked.Tie as tie
@@ -30,29 +29,26 @@ shared-slice-read-left-by c =
 
 returns : tie.Need-returns
 returns c =
-    let s = c .before .before .before .before .before .before .before in
+    let found = c .before .before .before in
+    let s = found .before .before .before .before in
     let a = s .args in
     let p = planeNumbered (a .plane) in
-    let n = c .before .before .before .stopping-place .result in
-    let words = c .before .before .before .before .before .before .shared-slice-known .given in
-    let e : n ≡ stoppingPlace p (a .digit) (a .words .now) =
-    c .before .before .before .stopping-place .ensures
-    ∙ rw (c .before .before .before .before .before .mask .ensures, c .before .before .before .before .pattern .ensures) (masks-place p (a .digit) (a .words .now) (s .pre) (λ k. words k .fits)) in
-    let z = sized-planes (a .device) _ (s .good .0) in
-    c .left-by .ensures ∙ sym (byte-at n (a .words .now) _ (omega arith)) ∙ looked-by p (a .digit) (s .pre) (a .words .now) (a .device) z n e
+    let words = found .before .before .before .shared-slice-known .given in
+    let e = masks-place p (a .digit) (a .words .now) (s .pre) (λ k. words k .fits) (found .stopping-place .result) _ _ (found .before .before .mask .ensures) (found .before .pattern .ensures) (found .stopping-place .ensures) in
+    c .left-by .ensures
+    ∙ sym (byte-at (found .stopping-place .result) (a .words .now) _ (omega arith))
+    ∙ looked-by p (a .digit) (s .pre) (a .words .now) (a .device) (sized-planes (a .device) _ (s .good .0)) (found .stopping-place .result) e
 
 returns-2 : tie.Need-returns-2
 returns-2 c =
-    let s = c .before .before .before .before .before .before in
+    let found = c .before .before in
+    let s = found .before .before .before .before in
     let a = s .args in
     let p = planeNumbered (a .plane) in
-    let words = c .before .before .before .before .before .shared-slice-known .given in
-    let e : c .before .before .stopping-place .result ≡ stoppingPlace p (a .digit) (a .words .now) =
-    c .before .before .stopping-place .ensures
-    ∙ rw (c .before .before .before .before .mask .ensures, c .before .before .before .pattern .ensures) (masks-place p (a .digit) (a .words .now) (s .pre) (λ k. words k .fits)) in
-    let g : 0 ≡ c .before .before .stopping-place .result = omega arith in
-    let z = sized-planes (a .device) _ (s .good .0) in
-    c .held .ensures ∙ looked-by p (a .digit) (s .pre) (a .words .now) (a .device) z 0 (g ∙ e)
+    let words = found .before .before .before .shared-slice-known .given in
+    let e = masks-place p (a .digit) (a .words .now) (s .pre) (λ k. words k .fits) (found .stopping-place .result) _ _ (found .before .before .mask .ensures) (found .before .pattern .ensures) (found .stopping-place .ensures) in
+    let none : 0 ≡ found .stopping-place .result = omega arith in
+    c .held .ensures ∙ looked-by p (a .digit) (s .pre) (a .words .now) (a .device) (sized-planes (a .device) _ (s .good .0)) 0 (none ∙ e)
 
 pub looked-spec : {M : Type 1} → statement M
 looked-spec =

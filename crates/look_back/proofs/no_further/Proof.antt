@@ -1,5 +1,5 @@
 -- `look_back::no_further` meets its contract. Assumes nothing.
-use Rattle.look_back.proofs.TakenLaws.{no-further}
+use Rattle.look_back.proofs.LookedLaws.{no-further}
 use Rattle.look_back.proofs.no_further.Statement.{statement}
 use Rattle.look_back.proofs.no_further.Tie as tie
 

@@ -9,6 +9,7 @@ ghost use Rattle.calls.specs.Served.{planeCode};
 use brightness::BrightnessAnswer;
 use device::Device;
 use display::SegmentAnswer;
+use look_back::LookBackAnswer;
 use words::Plane;
 
 // An answer: its number, and the plane shown, 0 for P0 and 1 for P1.
@@ -117,6 +118,15 @@ pub fn mark(d: Device) -> MarkAnswer
     MarkAnswer {
         number: 0,
         mark: d.answer_mark,
+    }
+}
+
+pub fn look_back_refused(number: u8, plane: usize, digit: usize, words: &[u16]) -> LookBackAnswer
+    ensures { λ r. ⌜ r ≡ record { number = number; byte = 0 } ⌝ }
+{
+    LookBackAnswer {
+        number: number,
+        byte: 0,
     }
 }
 

@@ -1,4 +1,4 @@
--- The bench examples, by one computation over the joined table, and those of numbers, answers, answer marks and the planner.
+-- The bench examples, by one computation over the joined table, and those of numbers, answers, answer marks, the planner and the look back.
 -- Assumes nothing.
 use mathlib.Core.Path.{refl}
 use Rattle.ground.specs.Lists.{tabulate, Agree}
@@ -13,7 +13,7 @@ use Rattle.display.specs.Examples.{WireExamples}
 use Rattle.calls.specs.CallRefusals.{allSound}
 use Rattle.calls.specs.Outcome.{number, after, reply}
 use Rattle.calls.specs.CallLists.{afterAll, numbers, replies}
-use Rattle.calls.specs.Examples.{rows, numberRows, answerRows, markRows, planRows, Examples}
+use Rattle.calls.specs.Examples.{rows, numberRows, answerRows, markRows, planRows, lookBackRows, Examples}
 
 bench : Agree rows
 unfolding tabulate bits value unpack byteAt pack wordAt string words wire answer shifted taken allSound number after reply afterAll numbers replies
@@ -38,5 +38,9 @@ bench-plans : Agree planRows
 unfolding tabulate total steps planBy largest accesses planned below same every acceptedWords acceptedList taken allSound number reply
 bench-plans = refl
 
+bench-looks : Agree lookBackRows
+unfolding taken allSound number reply
+bench-looks = refl
+
 pub examples : Examples
-examples = record { bench = bench; wires = bench-wires; numbers = bench-numbers; answers = bench-answers; marked = bench-marks; planned = bench-plans }
+examples = record { bench = bench; wires = bench-wires; numbers = bench-numbers; answers = bench-answers; marked = bench-marks; planned = bench-plans; looked-back = bench-looks }

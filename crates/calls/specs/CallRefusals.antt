@@ -1,14 +1,14 @@
--- Believed: document 01, "Numbers a call may give", and document 02, request 6: which rows of the table a call is tested by.
+-- Believed: document 01, "Numbers a call may give", and document 02, requests 6 and 9: which rows of the table a call is tested by.
 -- Assumes nothing.
 use Prim.Native.Nat.{ℕ}
 use mathlib.Core.Bool.{Bool, true, _&&_}
 use mathlib.Core.List.{List, [], _∷_}
 use lib.ListN.{length}
-use Rattle.refusals.specs.Refusals.{chainRefusal, driverRefusal, segmentsRefusal, levelsRefusal, brightnessRefusal, planeRefusal, soundRefusal, wantedRefusal, listRefusal, firstOf, sizeRefusal}
+use Rattle.refusals.specs.Refusals.{chainRefusal, driverRefusal, segmentsRefusal, levelsRefusal, brightnessRefusal, lookBackRefusal, planeRefusal, soundRefusal, wantedRefusal, listRefusal, firstOf, sizeRefusal}
 use Rattle.device.specs.Sound.{soundOf}
 use Rattle.device.specs.declared.Device.{Device}
 use Rattle.plans.specs.Plan.{accesses}
-use Rattle.calls.specs.Calls.{Step, scan, levels, clocks, Question, plane, planeShown, segments, brightness, shown, interrupt, answerMark, ChainQuestion, plan, planCheck, Call, access, give, ask, askChain}
+use Rattle.calls.specs.Calls.{Step, scan, levels, clocks, Question, plane, planeShown, segments, brightness, shown, interrupt, answerMark, lookBack, ChainQuestion, plan, planCheck, Call, access, give, ask, askChain}
 
 -- 2, by the driver that a call names; an access names none, nor does what the chain is asked
 abbrev pub namedRefusal : ℕ → Call → ℕ
@@ -30,7 +30,8 @@ stepRefusal (scan a b c d) = 0
 stepRefusal (levels l) = levelsRefusal l
 stepRefusal (clocks k) = 0
 
--- 6: a cathode above 7, a digit above 15, a range's last digit below its first, a lent plane not 16 long, a glyph table not 128 long
+-- 6: a cathode above 7, a digit above 15, a range's last digit below its first, a lent plane not 16 long, a glyph table not 128 long,
+-- a plane above 1
 abbrev pub questionRefusal : Question → ℕ
 questionRefusal (plane p0 p1 first last) = planeRefusal p0 p1 first last
 questionRefusal (planeShown p0 p1 first last) = planeRefusal p0 p1 first last
@@ -39,6 +40,7 @@ questionRefusal (brightness i) = brightnessRefusal i
 questionRefusal shown = 0
 questionRefusal interrupt = 0
 questionRefusal answerMark = 0
+questionRefusal (lookBack p i ws) = lookBackRefusal p i
 
 -- 6, by what a driver is given or asked
 abbrev pub argumentRefusal : Call → ℕ

@@ -1,5 +1,5 @@
 -- Believed: document 01, "Bench examples", 10 and 11 in the table of the display, the others in one, and "Numbers a call
--- may give", 1 to 7, 3 by example 12; document 02, requests 1, 2 and 6: what the definitions give beside what the documents say.
+-- may give", 1 to 7, 3 by example 12; document 02, requests 1, 2, 6 and 9: what the definitions give beside what the documents say.
 -- Assumes nothing.
 use Prim.Native.Nat.{ℕ, _+_, _*_}
 use mathlib.Core.List.{List, [], _∷_, _++_, map}
@@ -11,7 +11,7 @@ use Rattle.device.specs.Taken.{taken}
 use Rattle.device.specs.Examples.{rows as driverRows}
 use Rattle.device.specs.declared.Device.{Device}
 use Rattle.display.specs.Examples.{WireExamples, rows as displayRows}
-use Rattle.calls.specs.Calls.{scan, levels, Question, plane, segments, brightness, shown, interrupt, answerMark, plan, planCheck, Call, access, give, ask, askChain}
+use Rattle.calls.specs.Calls.{scan, levels, Question, plane, segments, brightness, shown, interrupt, answerMark, lookBack, plan, planCheck, Call, access, give, ask, askChain}
 use Rattle.calls.specs.Served.{recordOf}
 use Rattle.calls.specs.Outcome.{number, reply}
 use Rattle.calls.specs.CallLists.{afterAll, numbers, replies}
@@ -179,6 +179,29 @@ markRows =
     ∷ (marks (afterAll (accessOf 32 (0x84 ∷ 0x00 ∷ 0x04 ∷ 0x01 ∷ []) ∷ []) (freshChain 2)), 0 ∷ 1 ∷ [])
     ∷ []
 
+-- request 9: digit 3 of plane 1 of driver 2 of two
+abbrev pub lookedBack : List ℕ → List ℕ
+lookedBack ws = reply (ask 2 (lookBack 1 3 ws)) (powerUp ∷ taken powerUp 0x4311 ∷ [])
+
+-- its numbers and answers
+abbrev pub lookBackRows : List (List ℕ × List ℕ)
+lookBackRows =
+    -- 6: a plane above 1, a digit above 15
+    (map (λ p. asked (lookBack p 0 [])) (0 ∷ 1 ∷ 2 ∷ []), 0 ∷ 0 ∷ 6 ∷ [])
+    ∷ (map (λ i. asked (lookBack 0 i [])) (15 ∷ 16 ∷ []), 0 ∷ 6 ∷ [])
+    -- 1 and 2 before 6, 6 before 7
+    ∷ (
+      number (ask 1 (lookBack 2 0 [])) (freshChain 0)
+          ∷ number (ask 2 (lookBack 2 0 [])) (freshChain 1)
+          ∷ map (λ p. number (ask 1 (lookBack p 0 [])) (withPins powerUp 32 ∷ [])) (1 ∷ 2 ∷ []),
+      1 ∷ 2 ∷ 7 ∷ 6 ∷ [],
+    )
+    -- the byte written last, 0 after a clear, the record's where no word decides it
+    ∷ (lookedBack (0x4301 ∷ 0x6302 ∷ 0x2303 ∷ []) ++ lookedBack (0x4301 ∷ 0x0420 ∷ []) ++ lookedBack (0x2303 ∷ 0xC300 ∷ []), 0x02 ∷ 0x00 ∷ 0x11 ∷ [])
+    -- refused: 0
+    ∷ (reply (ask 1 (lookBack 0 16 (0x2001 ∷ []))) (freshChain 1) ++ reply (ask 3 (lookBack 1 3 (0x4301 ∷ []))) (freshChain 2), 0 ∷ 0 ∷ [])
+    ∷ []
+
 -- request 6: a planner's call that wants all planes 0, with room for as many words
 abbrev pub clearing : ℕ → List ℕ → Call
 clearing n room = askChain (plan (replicate (32 * n) 0) room)
@@ -220,3 +243,4 @@ pub record Examples : Type 0 where
   pub answers : Agree answerRows
   pub marked : Agree markRows
   pub planned : Agree planRows
+  pub looked-back : Agree lookBackRows

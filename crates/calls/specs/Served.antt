@@ -1,4 +1,4 @@
--- Believed: document 01, "Bits on the wire", "Keys", "Blink", "Segments and brightness", document 02, request 6: what a call leaves and gives back, served or refused.
+-- Believed: document 01, "Bits on the wire", "Keys", "Blink", "Segments and brightness", document 02, requests 6 and 9: what a call leaves and gives back, served or refused.
 -- Assumes nothing.
 use Prim.Native.Nat.{ℕ, _-_, _*_}
 use mathlib.Core.List.{List, [], _∷_, _++_, map}
@@ -17,11 +17,12 @@ use Rattle.device.specs.Steps.{scanned, clocked, shownPlane}
 use Rattle.device.specs.declared.Device.{Device}
 use Rattle.brightness.specs.Brightness.{brightnessOf, rulerOf, rulerCode}
 use Rattle.brightness.specs.declared.Ruler.the-variants.{Nothing}
+use Rattle.look_back.specs.LookBack.{planeNumbered, byteAfter}
 use Rattle.plans.specs.Check.{acceptedList}
 use Rattle.plans.specs.Plan.{accesses, planned}
 use Rattle.display.specs.Pins.{pinCode, segmentsOf}
 use Rattle.display.specs.declared.Pin.the-variants.{NotDriven}
-use Rattle.calls.specs.Calls.{Step, scan, levels, clocks, Question, plane, planeShown, segments, brightness, shown, interrupt, answerMark, ChainQuestion, plan, planCheck, Call, access, give, ask, askChain}
+use Rattle.calls.specs.Calls.{Step, scan, levels, clocks, Question, plane, planeShown, segments, brightness, shown, interrupt, answerMark, lookBack, ChainQuestion, plan, planCheck, Call, access, give, ask, askChain}
 
 -- driver j's record
 abbrev pub recordOf : List Device → ℕ → Device
@@ -50,7 +51,8 @@ abbrev pub planeCode : Plane → ℕ
 planeCode P0 = 0
 planeCode P1 = 1
 
--- what a driver answers, from its record and what is lent: the part, the 19 pins, the sixteenths and what rules them, the plane shown, the interrupt, the answer mark
+-- what a driver answers, from its record and what is lent: the part, the 19 pins, the sixteenths and what rules them, the plane shown, the interrupt, the answer mark,
+-- the byte that the words would leave
 abbrev pub answerTo : Question → Device → List ℕ
 answerTo (plane p0 p1 first last) x = planePart (shownPlane x) p0 p1 first last
 answerTo (planeShown p0 p1 first last) x = planeCode (shownPlane x) ∷ []
@@ -59,6 +61,7 @@ answerTo (brightness i) x = brightnessOf x i ∷ rulerCode (rulerOf x) ∷ []
 answerTo shown x = planeCode (shownPlane x) ∷ []
 answerTo interrupt x = x .registers .keys .interrupt ∷ []
 answerTo answerMark x = x .«answer_mark» ∷ []
+answerTo (lookBack p i ws) x = byteAfter x (planeNumbered p) i ws ∷ []
 
 -- a refused answer: the part is empty, no pin is driven, nothing rules, a number is 0
 abbrev pub refusedTo : Question → List ℕ
@@ -69,6 +72,7 @@ refusedTo (brightness i) = 0 ∷ rulerCode Nothing ∷ []
 refusedTo shown = 0 ∷ []
 refusedTo interrupt = 0 ∷ []
 refusedTo answerMark = 0 ∷ []
+refusedTo (lookBack p i ws) = 0 ∷ []
 
 -- what a chain answers: the accesses of the shortest list, and the words that were lent, with the list in front; 1 where a list is accepted
 abbrev pub chainAnswer : ChainQuestion → List Device → List ℕ

@@ -11,6 +11,8 @@ use Rattle.brightness.proofs.BrightnessAnswer as B
 use Rattle.brightness.proofs.BrightnessAnswer.Laws as B′
 use Rattle.display.proofs.SegmentAnswer as P
 use Rattle.display.proofs.SegmentAnswer.Laws as P′
+use Rattle.look_back.proofs.LookBackAnswer as K
+use Rattle.look_back.proofs.LookBackAnswer.Laws as K′
 use Rattle.planner.proofs.PlanAnswer as L
 use Rattle.planner.proofs.PlanAnswer.Laws as L′
 use Rattle.planner.proofs.PlanCheckAnswer as C
@@ -30,6 +32,9 @@ interruptAnswer = rec I.the-type I′.the-laws I′.the-plain I′.the-copy
 
 abbrev pub markAnswer : Data
 markAnswer = rec M.the-type M′.the-laws M′.the-plain M′.the-copy
+
+abbrev pub lookBackAnswer : Data
+lookBackAnswer = rec K.the-type K′.the-laws K′.the-plain K′.the-copy
 
 abbrev pub planAnswer : Data
 planAnswer = rec L.the-type L′.the-laws L′.the-plain L′.the-copy

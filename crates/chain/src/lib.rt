@@ -3,7 +3,7 @@ ghost use mathlib.Core.Path.{_≡_};
 ghost use mathlib.Core.List.{[], _∷_};
 ghost use lib.ListN.{length};
 ghost use Rattle.device.specs.PowerUp.{powerUp};
-ghost use Rattle.calls.specs.Calls.{access as accessCall, give, ask, scan, levels as pinLevels, clocks as masterClocks, plane, planeShown, segments, brightness, shown, interrupt, answerMark, askChain, plan, planCheck};
+ghost use Rattle.calls.specs.Calls.{access as accessCall, give, ask, scan, levels as pinLevels, clocks as masterClocks, plane, planeShown, segments, brightness, shown, interrupt, answerMark, lookBack, askChain, plan, planCheck};
 ghost use Rattle.calls.specs.Outcome.{outcome};
 ghost use Rattle.redraw.specs.PlanBytes.{bytesNumber, bytesAfter};
 use answers::InterruptAnswer;
@@ -12,6 +12,7 @@ use answers::ShownAnswer;
 use brightness::BrightnessAnswer;
 use device::Device;
 use display::SegmentAnswer;
+use look_back::LookBackAnswer;
 use planner::PlanAnswer;
 use planner::PlanCheckAnswer;
 
@@ -237,6 +238,26 @@ pub extern "C" fn max6954_answer_mark(chain: &[Device], driver: usize) -> MarkAn
     }
     let at = driver - 1;
     answers::mark(chain[at])
+}
+
+// The byte of a digit in plane 0 or 1 that one driver would have after a list of words, found by looking back from the last.
+#[no_mangle]
+pub extern "C" fn max6954_look_back(
+    chain: &[Device],
+    driver: usize,
+    plane: usize,
+    digit: usize,
+    words: &[u16],
+) -> LookBackAnswer
+    ensures { λ r. ⌜ outcome (ask driver (lookBack plane digit (now (words .entry)))) (now (chain .entry)) ≡ record { number = r .number; records = now (chain .entry); back = r .byte ∷ [] } ⌝ }
+{
+    let own = pass::look_back_refusal(plane, digit, words);
+    let number = lent::call_refusal(chain, driver, own);
+    if number != 0 {
+        return answers::look_back_refused(number, plane, digit, words);
+    }
+    let at = driver - 1;
+    look_back::look_back(chain[at], plane, digit, words)
 }
 
 // The shortest list of accesses that leads to the wanted contents, 32 bytes for each driver, P0 then P1: into the front of the list.

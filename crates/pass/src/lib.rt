@@ -3,7 +3,7 @@ ghost use mathlib.Core.Path.{_≡_};
 ghost use lib.Dec.{eqb};
 ghost use Rattle.ground.specs.Choice.{if};
 ghost use Rattle.refusals.specs.Refusals.{chainRefusal, driverRefusal, soundRefusal};
-ghost use Rattle.calls.specs.Calls.{scan, levels as pinLevels, clocks as masterClocks, plane, brightness, shown, interrupt, answerMark};
+ghost use Rattle.calls.specs.Calls.{scan, levels as pinLevels, clocks as masterClocks, plane, brightness, shown, interrupt, answerMark, lookBack};
 ghost use Rattle.calls.specs.CallRefusals.{stepRefusal, questionRefusal};
 ghost use Rattle.pass.specs.Widths.{eightBytes, twoBytes, greater, noWidths, widthsWith, fit};
 ghost use Rattle.pass.specs.Found.{byArguments, accessByArguments, toPass, toPassIn, inRoom, found};
@@ -242,4 +242,11 @@ pub fn mark_refusal() -> u8
     ensures { λ r. ⌜ r ≡ questionRefusal answerMark ⌝ }
 {
     0
+}
+
+// 6: a plane above 1, or a digit above 15.
+pub fn look_back_refusal(plane: usize, digit: usize, words: &[u16]) -> u8
+    ensures { λ r. ⌜ r ≡ questionRefusal (lookBack plane digit (now (words .entry))) ⌝ }
+{
+    if (plane < 2) & (digit < 16) { 0 } else { 6 }
 }

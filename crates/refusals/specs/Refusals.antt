@@ -43,6 +43,10 @@ levelsRefusal l = if (ltb 31 l) 6 0
 abbrev pub brightnessRefusal : ℕ → ℕ
 brightnessRefusal i = if (ltb i 16) 0 6
 
+-- 6: a plane above 1, or a digit above 15 (document 02, request 9)
+abbrev pub lookBackRefusal : ℕ → ℕ → ℕ
+lookBackRefusal plane digit = if (ltb plane 2 && ltb digit 16) 0 6
+
 -- 6: a digit of a range above 15, its last digit below its first, or a lent plane not 16 long
 abbrev pub planeRefusal : List ℕ → List ℕ → ℕ → ℕ → ℕ
 planeRefusal p0 p1 first last = if (eqb (length p0) 16 && eqb (length p1) 16 && ltb last 16 && leb first last) 0 6

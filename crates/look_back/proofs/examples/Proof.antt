@@ -1,0 +1,7 @@
+-- `look_back::examples` meets its contract. Assumes nothing.
+use Rattle.look_back.proofs.Bench.{examples}
+use Rattle.look_back.proofs.examples.Statement.{statement}
+use Rattle.look_back.proofs.examples.Tie as tie
+
+pub examples-spec : {M : Type 1} → statement M
+examples-spec = tie.close (tie.spec (λ c. examples))

@@ -1,0 +1,9 @@
+-- `look_back::held` meets its contract. Assumes nothing.
+use borrow.Author.Needs.{needs}
+use Rattle.ground.proofs.Tests.{tests}
+use Rattle.look_back.proofs.held.Statement.{statement}
+use Rattle.look_back.proofs.held.Tie as tie
+
+pub held-spec : {M : Type 1} → statement M
+held-spec =
+    tie.close (tie.spec (λ c. search needs) (λ c. search needs) (λ c. search tests) (λ c. search tests))

@@ -1,0 +1,5 @@
+pub mod LookBack
+pub mod Stops
+pub mod NoFurther
+pub mod Masks
+pub mod Examples

@@ -31,7 +31,7 @@ pub fn pass(random: &mut Random, plane: usize, digit: u8) -> u16 {
     u16::from_be_bytes(match random.below(8) {
         0 => [OWN[1 - plane] + digit, data],
         1 => [random.pick(&[0x20, 0x40, 0x60]) + other, data],
-        2 => [0x80 | random.pick(&[0x20, 0x40, 0x60]) + digit, data],
+        2 => [random.pick(&[0xA0, 0xC0, 0xE0]) + digit, data],
         3 => [0x04, data & !R],
         4 => [0x84, data | R],
         5 => [

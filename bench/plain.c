@@ -12,6 +12,14 @@ static int is_sound(const max6954_device *d)
            r->keys.interrupt < 2 && r->pins < 32 && r->blink < CYCLE && d->answer_mark < 2;
 }
 
+static int all_sound(const max6954_device *chain, size_t n)
+{
+    for (size_t i = 0; i < n; i++)
+        if (!is_sound(chain + i))
+            return 0;
+    return 1;
+}
+
 /* The words that one digit needs, which has a and b and is to have x and y. */
 static unsigned need(uint8_t a, uint8_t b, uint8_t x, uint8_t y)
 {
@@ -83,9 +91,8 @@ max6954_plan_answer plain_plan(const max6954_device *chain, size_t n, const uint
     size_t most = 0;
     if (n < 1 || n > DRIVERS)
         return (max6954_plan_answer){ 1, 0 };
-    for (size_t i = 0; i < n; i++)
-        if (!is_sound(chain + i))
-            return (max6954_plan_answer){ 7, 0 };
+    if (!all_sound(chain, n))
+        return (max6954_plan_answer){ 7, 0 };
     if (wanted_length != MAX6954_WANTED_SIZE * n)
         return (max6954_plan_answer){ 12, 0 };
     for (size_t i = 0; i < n; i++) {
@@ -98,4 +105,27 @@ max6954_plan_answer plain_plan(const max6954_device *chain, size_t n, const uint
     for (size_t i = 0; i < n; i++)
         write_driver(list, i, n, most * n, &chain[i].registers, wanted + MAX6954_WANTED_SIZE * i);
     return (max6954_plan_answer){ 0, most };
+}
+
+max6954_look_back_answer plain_look_back(const max6954_device *chain, size_t n, size_t driver, size_t plane, size_t digit, const uint16_t *words,
+                                         size_t length)
+{
+    if (n < 1 || n > DRIVERS)
+        return (max6954_look_back_answer){ 1, 0 };
+    if (driver < 1 || driver > n)
+        return (max6954_look_back_answer){ 2, 0 };
+    if (plane > 1 || digit >= DIGITS)
+        return (max6954_look_back_answer){ 6, 0 };
+    if (!all_sound(chain, n))
+        return (max6954_look_back_answer){ 7, 0 };
+    const unsigned own = (plane ? 0x40 : 0x20) + (unsigned)digit, both = 0x60 + (unsigned)digit;
+    for (size_t i = length; i > 0; i--) {
+        const unsigned word = words[i - 1], high = word >> 8;
+        if (high == own || high == both)
+            return (max6954_look_back_answer){ 0, (uint8_t)word };
+        if (high == 0x04 && word & 0x20)
+            return (max6954_look_back_answer){ 0, 0 };
+    }
+    const max6954_planes *held = &chain[driver - 1].registers.planes;
+    return (max6954_look_back_answer){ 0, (plane ? held->p1 : held->p0)[digit] };
 }

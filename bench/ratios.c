@@ -4,12 +4,9 @@
 #include <stdio.h>
 #include <stdlib.h>
 #include <string.h>
-#include <time.h>
-#ifdef __linux__
-#include <sched.h>
-#endif
 #include "plain.h"
 #include "random.h"
+#include "timing.h"
 #include "tuned.h"
 
 enum { ROUNDS = 100, POOL = 32768, PICTURES = 16 };
@@ -127,13 +124,6 @@ static void fill_words(void)
     }
 }
 
-static double now(void)
-{
-    struct timespec t;
-    clock_gettime(CLOCK_MONOTONIC, &t);
-    return (double)t.tv_sec * 1e9 + (double)t.tv_nsec;
-}
-
 /* Of one double: its records, its turns, their sum and the least ns of one. */
 typedef struct {
     max6954_device chain[16];
@@ -219,20 +209,6 @@ static void plan_line(void)
 {
     fill(pictures, sizeof pictures);
     line("plan", plan_ours, plan_plain, 7, (setup){ 16, 0, NULL }, 2.0);
-}
-
-/* Stays on the core that it is on, where the system has a call for it. */
-static void pin(void)
-{
-#ifdef __linux__
-    cpu_set_t one;
-    const int core = sched_getcpu();
-    CPU_ZERO(&one);
-    if (core >= 0 && core < CPU_SETSIZE) {
-        CPU_SET(core, &one);
-        sched_setaffinity(0, sizeof one, &one);
-    }
-#endif
 }
 
 int main(void)

@@ -1,12 +1,12 @@
 /* The speed of an access. The best of nine rounds, in nanoseconds a call.
      speed accesses         for each size: drivers, clocks, an access, and a shift register in plain C by clock and by bit index
      speed count N CLOCKS   ten accesses, and ten of the shift register by clock, to be counted by callgrind */
-#define _POSIX_C_SOURCE 199309L
+#define _GNU_SOURCE
 #include <stdio.h>
 #include <stdlib.h>
 #include <string.h>
-#include <time.h>
 #include "ratchetelm.h"
+#include "timing.h"
 
 static uint8_t sent[512], answer[512];
 static max6954_device chain[16];
@@ -48,13 +48,6 @@ static void by_index(uint16_t *words, size_t n, size_t clocks)
             next[i] = (uint16_t)(next[i] << 1 | bit_at(words, n, clocks + 16 * (n - 1 - i) + b));
     for (size_t i = 0; i < n; i++)
         words[i] = next[i];
-}
-
-static double now(void)
-{
-    struct timespec t;
-    clock_gettime(CLOCK_MONOTONIC, &t);
-    return (double)t.tv_sec * 1e9 + (double)t.tv_nsec;
 }
 
 #define BEST(result, turns, call)                                                                                      \

@@ -13,8 +13,8 @@
      3 more than 4,096 clocks in one access
      4 sent bytes fewer than the clocks need (clocks / 8, rounded up)
      5 room for answer bytes fewer than the clocks need
-     6 cathode above 7, pin levels above 31, a digit (alone or in a range) above 15, a range's last digit below its first, a lent plane not 16
-       long, or a glyph table not 128 long
+     6 cathode above 7, pin levels above 31, a digit (alone or in a range) above 15, a plane above 1, a range's last digit below its first, a lent
+       plane not 16 long, or a glyph table not 128 long
      7 some record of the chain isn't sound: a field doesn't fit its register, the blink count isn't below 4,000,000, or the answer mark is above 1
     12 wanted planes not 32 bytes a driver
     13 room for the list too small for the shortest
@@ -25,8 +25,8 @@
 #include <stddef.h>
 #include <stdint.h>
 
-/* 0.4.0: 10,000 for each of the first number, 100 of the second, 1 of the third. */
-#define RATCHETELM_VERSION 400
+/* 0.5.0: 10,000 for each of the first number, 100 of the second, 1 of the third. */
+#define RATCHETELM_VERSION 500
 
 /* The bytes of a record as the library has it. A program can test at its start that its compiler lays it out alike: sizeof(max6954_device) is this. */
 #define MAX6954_DEVICE_SIZE 80
@@ -56,8 +56,8 @@ static inline const char *max6954_refusal_text(uint8_t number)
     case 5:
         return "room for answer bytes fewer than the clocks need";
     case 6:
-        return "cathode above 7, pin levels above 31, a digit (alone or in a range) above 15, a range's last digit "
-               "below its first, a lent plane not 16 long, or a glyph table not 128 long";
+        return "cathode above 7, pin levels above 31, a digit (alone or in a range) above 15, a plane above 1, "
+               "a range's last digit below its first, a lent plane not 16 long, or a glyph table not 128 long";
     case 7:
         return "some record of the chain isn't sound";
     case 8:
@@ -177,6 +177,11 @@ typedef struct {
 
 typedef struct {
     uint8_t number;
+    uint8_t byte;    /* 0 where refused */
+} max6954_look_back_answer;
+
+typedef struct {
+    uint8_t number;
     size_t accesses;    /* of the list, 0 to 32; 0 where refused */
 } max6954_plan_answer;
 
@@ -221,6 +226,12 @@ max6954_interrupt_answer max6954_interrupt(const max6954_device *chain, size_t n
 /* Whether the word that a driver last took was a read, of any address. Every access that is served decides it afresh for every driver, also at
    0 clocks; nothing else changes it, and it isn't set at power-up. */
 max6954_mark_answer max6954_answer_mark(const max6954_device *chain, size_t n, size_t driver);
+
+/* The byte of a digit in plane 0 or 1 that a driver would have after taking these words in order; digits 0 to 7, then 8 to 15 for 0a to 7a. The list
+   may have any length, and no record changes. It looks back from the last word, and stops at the first that writes the byte (0x20 and the digit for
+   plane 0, 0x40 for plane 1, 0x60 for both) or clears the planes (a configuration write with R); else it is the byte in the record. Gives 6. */
+max6954_look_back_answer max6954_look_back(const max6954_device *chain, size_t n, size_t driver, size_t plane, size_t digit, const uint16_t *words,
+                                           size_t length);
 
 /* The number of a call of max6954_plane. Gives 6. */
 uint8_t max6954_plane_number(const max6954_device *chain, size_t n, size_t driver, const uint8_t *p0, size_t p0_length, const uint8_t *p1,

@@ -256,6 +256,11 @@ static void answers(void)
     const max6954_mark_answer m = max6954_answer_mark(chain, DRIVERS, DRIVER), m4 = max6954_answer_mark(chain, DRIVERS, 4);
     holds("served", "mark answer", m.number == 0 && m.mark == 1);
     holds("refused", "mark answer", m4.number == 2 && m4.mark == 0);
+    const uint16_t word = 0x6577;
+    const max6954_look_back_answer l = max6954_look_back(chain, DRIVERS, DRIVER, 1, 5, &word, 1), l4 = max6954_look_back(chain, DRIVERS, 4, 1, 5, &word, 1);
+    holds("two bytes", "look back answer", sizeof l == 2 && offsetof(max6954_look_back_answer, byte) == 1);
+    holds("served", "look back answer", l.number == 0 && l.byte == 0x77);
+    holds("refused", "look back answer", l4.number == 2 && l4.byte == 0);
 }
 
 /* So of a plan's: the drivers are cleared, and then one digit of the driver is written. */

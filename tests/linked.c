@@ -1,21 +1,11 @@
 /* The exported calls from C: bench examples on a chain, each number with nothing changed, what a driver shows, brightness, answer marks, and plans. */
 #include <stddef.h>
-#include <stdio.h>
 #include <string.h>
+#include "linked.h"
 #include "ratchetelm.h"
 
 static max6954_device chain[17];
 static uint8_t answer[600];
-static int passed, failed;
-
-static void holds(const char *what, int yes)
-{
-    printf("%s: %s\n", yes ? "ok" : "FAILED", what);
-    if (yes)
-        passed++;
-    else
-        failed++;
-}
 
 static void fresh(void)
 {
@@ -131,7 +121,7 @@ static void words(void)
         "more than 4,096 clocks in one access",
         "sent bytes fewer than the clocks need",
         "room for answer bytes fewer than the clocks need",
-        ("cathode above 7, pin levels above 31, a digit (alone or in a range) above 15, a range's last digit below its first, "
+        ("cathode above 7, pin levels above 31, a digit (alone or in a range) above 15, a plane above 1, a range's last digit below its first, "
          "a lent plane not 16 long, or a glyph table not 128 long"),
         "some record of the chain isn't sound",
         "script: wrong mark, unknown kind, cut record, length not fitting its kind, or a chain record that isn't first",
@@ -433,6 +423,5 @@ int main(void)
     refused_plans();
     checks();
     bytes_of_plans();
-    printf("%d passed, %d failed\n", passed, failed);
-    return failed != 0;
+    return counted();
 }

@@ -266,6 +266,44 @@ pub fn answer_mark(chain: &[Device], driver: usize) -> Result<bool, Refusal> {
     Ok(answer.mark == 1)
 }
 
+/// The byte of a digit in a plane that a driver would have after taking these words in order: digits 0 to 7, then 8 to 15 for
+/// 0a to 7a. It looks back from the last word, and stops at the first that writes the byte or clears the planes.
+///
+/// ```
+/// use ratchetelm::{look_back, Device, Plane, Refusal};
+///
+/// let chain = [Device::power_up()];
+/// // Digit 3 is written in P0, then in both planes, then P1 alone; and digit 4, which is another.
+/// let words = [0x2311, 0x6322, 0x4333, 0x6444];
+/// assert_eq!(look_back(&chain, 1, Plane::P0, 3, &words)?, 0x22);
+/// assert_eq!(look_back(&chain, 1, Plane::P1, 3, &words)?, 0x33);
+/// assert_eq!(look_back(&chain, 1, Plane::P0, 5, &words)?, 0x20); // as at power-up
+/// # Ok::<(), Refusal>(())
+/// ```
+pub fn look_back(
+    chain: &[Device],
+    driver: usize,
+    plane: Plane,
+    digit: usize,
+    words: &[u16],
+) -> Result<u8, Refusal> {
+    let (n, length) = (chain.len(), words.len());
+    // SAFETY: each pointer has the length of its slice, and nothing is written.
+    let answer = unsafe {
+        sys::max6954_look_back(
+            chain.as_ptr(),
+            n,
+            driver,
+            plane as usize,
+            digit,
+            words.as_ptr(),
+            length,
+        )
+    };
+    Refusal::of(answer.number)?;
+    Ok(answer.byte)
+}
+
 /// The fewest accesses that lead from the planes of a chain to wanted ones, [`WANTED_SIZE`] bytes a driver, driver 1's first.
 /// So many accesses are put into the list, each a word to each driver, driver 1's first; words after them stay. A room of
 /// [`MOST_ACCESSES`] words for each driver always does.

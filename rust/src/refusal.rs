@@ -52,8 +52,8 @@ impl fmt::Display for Refusal {
             Refusal::SentTooShort => "sent bytes fewer than the clocks need",
             Refusal::AnswerTooShort => "room for answer bytes fewer than the clocks need",
             Refusal::OutOfRange => {
-                "cathode above 7, pin levels above 31, a digit (alone or in a range) above 15, a range's last digit \
-                 below its first, a lent plane not 16 long, or a glyph table not 128 long"
+                "cathode above 7, pin levels above 31, a digit (alone or in a range) above 15, a plane above 1, \
+                 a range's last digit below its first, a lent plane not 16 long, or a glyph table not 128 long"
             }
             Refusal::Unsound => "some record of the chain isn't sound",
             Refusal::WantedLength => "wanted planes not 32 bytes a driver",

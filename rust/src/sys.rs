@@ -37,6 +37,12 @@ pub struct MarkAnswer {
 }
 
 #[repr(C)]
+pub struct LookBackAnswer {
+    pub number: u8,
+    pub byte: u8,
+}
+
+#[repr(C)]
 pub struct PlanAnswer {
     pub number: u8,
     pub accesses: usize,
@@ -110,6 +116,16 @@ extern "C" {
         first: usize,
         last: usize,
     ) -> ShownAnswer;
+
+    pub fn max6954_look_back(
+        chain: *const Device,
+        n: usize,
+        driver: usize,
+        plane: usize,
+        digit: usize,
+        words: *const u16,
+        length: usize,
+    ) -> LookBackAnswer;
 
     pub fn max6954_plan(
         chain: *const Device,

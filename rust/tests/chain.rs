@@ -1,8 +1,8 @@
 //! The library through the safe calls: each call served and refused, and every field where its name is.
 use ratchetelm::{
-    access, add_clocks, answer_mark, brightness, interrupt, plan, plan_bytes, plan_check, plane,
-    scan, segments, set_pins, shown, Brightness, Config, Controls, Device, Group, Pin, Plane,
-    Refusal, Ruler, MOST_ACCESSES, WANTED_SIZE,
+    access, add_clocks, answer_mark, brightness, interrupt, look_back, plan, plan_bytes,
+    plan_check, plane, scan, segments, set_pins, shown, Brightness, Config, Controls, Device,
+    Group, Pin, Plane, Refusal, Ruler, MOST_ACCESSES, WANTED_SIZE,
 };
 use std::mem::size_of;
 
@@ -237,6 +237,25 @@ fn the_returned_part_is_uncopied() {
     assert_eq!(part.as_ptr_range(), p1.as_ptr_range());
 }
 
+#[test]
+fn a_byte_is_found_by_looking_back() {
+    let chain = filled();
+    // Words; then the bytes of digit 3 of driver 2 in P0 and in P1.
+    let rows: [(&[u16], [u8; 2]); 6] = [
+        (&[], [0x63, 0x83]),
+        (&[0x2311, 0x6422, 0xA300], [0x11, 0x83]),
+        (&[0x6311, 0x4322], [0x11, 0x22]),
+        (&[0x6311, 0x0420], [0, 0]),
+        (&[0x0460, 0x4322], [0, 0x22]),
+        (&[0x6311, 0x04DF], [0x11, 0x11]),
+    ];
+    for (words, [p0, p1]) in rows {
+        assert_eq!(look_back(&chain, 2, Plane::P0, 3, words), Ok(p0));
+        assert_eq!(look_back(&chain, 2, Plane::P1, 3, words), Ok(p1));
+    }
+    assert_eq!(look_back(&chain, 1, Plane::P0, 3, &[]), Ok(0x20));
+}
+
 /// The planes of each driver, as a plan is asked for them.
 fn pictures(chain: &[Device]) -> Vec<u8> {
     let planes = chain.iter().map(|d| d.registers.planes);
@@ -355,7 +374,7 @@ fn numbers(
     sent: &[u8],
     above: usize,
     font: &[u16],
-) -> [u8; 10] {
+) -> [u8; 11] {
     let planes = [0; 16];
     [
         number(access(chain, clocks, sent, &mut [0; 2])),
@@ -368,6 +387,7 @@ fn numbers(
         number(shown(chain, driver)),
         number(interrupt(chain, driver)),
         number(answer_mark(chain, driver)),
+        number(look_back(chain, driver, Plane::P1, 15 + above, &[0x6077])),
     ]
 }
 
@@ -380,18 +400,34 @@ fn each_call_is_refused_by_its_number() {
     marked[2].answer_mark = 2;
     // 2, but for an access, which names no driver.
     let no_driver = |access: u8| {
-        let mut numbers = [2; 10];
+        let mut numbers = [2; 11];
         numbers[0] = access;
         numbers
     };
     let rows = [
-        (&fresh[..0], 1, 16, 2, 0, 128, [1; 10]),
-        (&fresh[..], 1, 16, 2, 0, 128, [1; 10]),
+        (&fresh[..0], 1, 16, 2, 0, 128, [1; 11]),
+        (&fresh[..], 1, 16, 2, 0, 128, [1; 11]),
         (&fresh[..3], 0, 4097, 0, 1, 128, no_driver(3)),
         (&fresh[..3], 4, 17, 2, 1, 128, no_driver(4)),
-        (&late[..3], 1, 17, 3, 1, 128, [5, 7, 6, 7, 6, 6, 6, 7, 7, 7]),
-        (&high[..3], 3, 16, 2, 0, 127, [7, 7, 7, 7, 7, 6, 7, 7, 7, 7]),
-        (&marked[..3], 1, 16, 2, 0, 128, [7; 10]),
+        (
+            &late[..3],
+            1,
+            17,
+            3,
+            1,
+            128,
+            [5, 7, 6, 7, 6, 6, 6, 7, 7, 7, 6],
+        ),
+        (
+            &high[..3],
+            3,
+            16,
+            2,
+            0,
+            127,
+            [7, 7, 7, 7, 7, 6, 7, 7, 7, 7, 7],
+        ),
+        (&marked[..3], 1, 16, 2, 0, 128, [7; 11]),
     ];
     for (records, driver, clocks, length, above, font, expected) in rows {
         let mut chain = records.to_vec();
@@ -408,7 +444,7 @@ fn each_call_is_refused_by_its_number() {
     let mut chain = fresh;
     assert_eq!(
         numbers(&mut chain[..16], 16, 16, &[0; 2], 0, &FONT),
-        [0; 10]
+        [0; 11]
     );
     assert_eq!(access(&mut chain[..1], 0, &[], &mut []), Ok(()));
 }

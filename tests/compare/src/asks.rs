@@ -1,12 +1,13 @@
 //! Random calls, with long, short and damaged arguments, and a call in words.
 
 use crate::convert::{hex, hex_words};
+use crate::looks;
 use crate::random::Random;
 use crate::words;
 use second_double::Call;
 
 /// The kinds of calls, in the order of `kind_of`.
-pub const KINDS: [&str; 10] = [
+pub const KINDS: [&str; 11] = [
     "access",
     "scan",
     "pins",
@@ -17,6 +18,7 @@ pub const KINDS: [&str; 10] = [
     "shown",
     "interrupt",
     "answer mark",
+    "look back",
 ];
 
 /// The place of a call's kind among `KINDS`.
@@ -32,6 +34,7 @@ pub fn kind_of(call: &Call) -> usize {
         Call::Shown { .. } => 7,
         Call::Interrupt { .. } => 8,
         Call::AnswerMark { .. } => 9,
+        Call::LookBack { .. } => 10,
     }
 }
 
@@ -47,14 +50,15 @@ pub fn driver_of(call: &Call) -> Option<usize> {
         | Call::Brightness { driver, .. }
         | Call::Shown { driver }
         | Call::Interrupt { driver }
-        | Call::AnswerMark { driver } => Some(*driver),
+        | Call::AnswerMark { driver }
+        | Call::LookBack { driver, .. } => Some(*driver),
     }
 }
 
 /// A call on a chain of n, mostly one that is served.
 pub fn call(random: &mut Random, n: usize) -> Call {
     let driver = driver(random, n);
-    match random.below(14) {
+    match random.below(15) {
         0..=5 => access(random, n),
         6 | 7 => Call::Scan {
             driver,
@@ -74,6 +78,7 @@ pub fn call(random: &mut Random, n: usize) -> Call {
             driver,
             digit: within(random, 16, usize::MAX),
         },
+        13 => look_back(random, driver),
         _ => flag(random, driver),
     }
 }
@@ -154,6 +159,20 @@ fn segments(random: &mut Random, driver: usize) -> Call {
     }
 }
 
+fn look_back(random: &mut Random, driver: usize) -> Call {
+    let (plane, digit) = (
+        within(random, 2, usize::MAX),
+        within(random, 16, usize::MAX),
+    );
+    let length = random.below(30);
+    Call::LookBack {
+        driver,
+        plane,
+        digit,
+        words: looks::list(random, plane % 2, (digit % 16) as u8, length),
+    }
+}
+
 fn font(random: &mut Random) -> Vec<u16> {
     let length = table_length(random, 128);
     (0..length).map(|_| random.number() as u16).collect()
@@ -196,6 +215,12 @@ pub fn spelled(call: &Call) -> String {
             hex_words(font16)
         ),
         Call::Brightness { digit, .. } => format!("digit={digit}"),
+        Call::LookBack {
+            plane,
+            digit,
+            words,
+            ..
+        } => format!("plane={plane} digit={digit} words={}", hex_words(words)),
         Call::Shown { .. } | Call::Interrupt { .. } | Call::AnswerMark { .. } => String::new(),
     };
     let driver = driver_of(call).map_or(String::new(), |driver| format!("driver={driver} "));

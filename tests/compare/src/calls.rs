@@ -24,6 +24,7 @@ const NUMBERS: [&[usize]; KINDS.len()] = [
     &[0, 1, 2, 7],
     &[0, 1, 2, 7],
     &[0, 1, 2, 7],
+    &[0, 1, 2, 6, 7],
 ];
 
 /// How often each kind of call gave each number.

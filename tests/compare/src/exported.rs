@@ -51,6 +51,15 @@ extern "C" {
     fn max6954_shown(chain: *const Device, n: usize, driver: usize) -> One;
     fn max6954_interrupt(chain: *const Device, n: usize, driver: usize) -> One;
     fn max6954_answer_mark(chain: *const Device, n: usize, driver: usize) -> One;
+    fn max6954_look_back(
+        chain: *const Device,
+        n: usize,
+        driver: usize,
+        plane: usize,
+        digit: usize,
+        words: *const u16,
+        length: usize,
+    ) -> One;
     fn max6954_plane_number(
         chain: *const Device,
         n: usize,
@@ -123,6 +132,28 @@ pub fn interrupt(chain: &[Device], driver: usize) -> Reply {
 pub fn answer_mark(chain: &[Device], driver: usize) -> Reply {
     // SAFETY: the pointer has the length of its slice, and nothing is written.
     unsafe { max6954_answer_mark(chain.as_ptr(), chain.len(), driver) }.into()
+}
+
+pub fn look_back(
+    chain: &[Device],
+    driver: usize,
+    plane: usize,
+    digit: usize,
+    words: &[u16],
+) -> Reply {
+    // SAFETY: each pointer has the length of its slice, and nothing is written.
+    let answer = unsafe {
+        max6954_look_back(
+            chain.as_ptr(),
+            chain.len(),
+            driver,
+            plane,
+            digit,
+            words.as_ptr(),
+            words.len(),
+        )
+    };
+    answer.into()
 }
 
 pub fn plane_number(

@@ -1,6 +1,6 @@
 //! Runs the comparison. COMPARE_SEED is another seed, COMPARE_TIMES a longer run, COMPARE_PANEL another panel program.
 
-use compare::{calls, least, lists, plan_bytes, plan_checks, plans, scripts, sent};
+use compare::{calls, least, lists, look_backs, plan_bytes, plan_checks, plans, scripts, sent};
 use std::env;
 use std::process::ExitCode;
 
@@ -18,6 +18,7 @@ fn main() -> ExitCode {
         least::compare,
         sent::compare,
         plan_bytes::compare,
+        look_backs::compare,
     ];
     for compare in parts {
         let part = compare(seed, times);

@@ -2,7 +2,7 @@
 
 use crate::exported;
 use crate::guards::guarded;
-use ratchetelm::{Device, Refusal};
+use ratchetelm::{Device, Plane, Refusal};
 use second_double::{Call, Reply};
 
 /// Serves or refuses one call.
@@ -52,7 +52,25 @@ fn question(chain: &[Device], call: &Call) -> Reply {
             ratchetelm::answer_mark(chain, *driver).map(|mark| vec![u8::from(mark)]),
             exported::answer_mark(chain, *driver),
         ),
+        Call::LookBack {
+            driver,
+            plane,
+            digit,
+            words,
+        } => look_back(chain, *driver, *plane, *digit, words),
         _ => unreachable!("the other calls change the chain"),
+    }
+}
+
+/// The safe call has no plane above 1, so that such a one is asked for as C does.
+fn look_back(chain: &[Device], driver: usize, plane: usize, digit: usize, words: &[u16]) -> Reply {
+    let exported = exported::look_back(chain, driver, plane, digit, words);
+    match [Plane::P0, Plane::P1].get(plane) {
+        Some(named) => agreed(
+            ratchetelm::look_back(chain, driver, *named, digit, words).map(|byte| vec![byte]),
+            exported,
+        ),
+        None => exported,
     }
 }
 

@@ -3,6 +3,7 @@
 use crate::blink::{add_clocks, shown, Plane};
 use crate::brightness::{brightness, Brightness};
 use crate::keys::scan;
+use crate::look_back::look_back;
 use crate::record::Record;
 use crate::segments::{pins, NO_PIN_DRIVEN};
 use crate::wire::{bytes_needed, shift};
@@ -46,6 +47,13 @@ pub enum Call {
     Interrupt { driver: usize },
     /// The answer mark: 1 when the latest access loaded the shift word by a read.
     AnswerMark { driver: usize },
+    /// The byte of a digit in plane 0 or 1 after the driver had taken these words.
+    LookBack {
+        driver: usize,
+        plane: usize,
+        digit: usize,
+        words: Vec<u16>,
+    },
 }
 
 /// The number of a call and the bytes it gives back.
@@ -143,6 +151,7 @@ fn value_bad(call: &Call) -> bool {
             ..
         } => *cathode > 7 || font14.len() != 128 || font16.len() != 128,
         Call::Brightness { digit, .. } => *digit > 15,
+        Call::LookBack { plane, digit, .. } => *plane > 1 || *digit > 15,
         _ => false,
     }
 }
@@ -159,7 +168,8 @@ pub fn named_driver(call: &Call) -> Option<usize> {
         | Call::Brightness { driver, .. }
         | Call::Shown { driver }
         | Call::Interrupt { driver }
-        | Call::AnswerMark { driver } => Some(*driver),
+        | Call::AnswerMark { driver }
+        | Call::LookBack { driver, .. } => Some(*driver),
     }
 }
 
@@ -192,6 +202,12 @@ pub fn serve(record: &mut Record, call: &Call) -> Vec<u8> {
         Call::Shown { .. } => return vec![u8::from(shown(record) == Plane::P1)],
         Call::Interrupt { .. } => return vec![record.interrupt],
         Call::AnswerMark { .. } => return vec![record.answer_mark],
+        Call::LookBack {
+            plane,
+            digit,
+            words,
+            ..
+        } => return vec![look_back(record, *plane, *digit, words)],
     }
     Vec::new()
 }
@@ -201,7 +217,10 @@ fn refused(call: &Call) -> Vec<u8> {
     match call {
         Call::Segments { .. } => NO_PIN_DRIVEN.to_vec(),
         Call::Brightness { .. } => Brightness::REFUSED.bytes(),
-        Call::Shown { .. } | Call::Interrupt { .. } | Call::AnswerMark { .. } => vec![0],
+        Call::Shown { .. }
+        | Call::Interrupt { .. }
+        | Call::AnswerMark { .. }
+        | Call::LookBack { .. } => vec![0],
         _ => Vec::new(),
     }
 }

@@ -8,6 +8,7 @@ mod calls;
 mod check;
 mod keys;
 mod lone;
+mod look_back;
 mod picture;
 mod plan_bytes;
 mod planner;

@@ -37,7 +37,7 @@ fn any_access(source: &mut Source, n: usize) -> Call {
 
 fn any_call(source: &mut Source, n: usize) -> Call {
     let driver = source.below(n + 2);
-    match source.below(15) {
+    match source.below(16) {
         0 => Call::Scan {
             driver,
             keys: [source.below(4) as u8; 4],
@@ -70,6 +70,12 @@ fn any_call(source: &mut Source, n: usize) -> Call {
         7 => Call::Shown { driver },
         8 => Call::Interrupt { driver },
         9 => Call::AnswerMark { driver },
+        10 => Call::LookBack {
+            driver,
+            plane: source.below(3),
+            digit: source.below(17),
+            words: source.table(),
+        },
         _ => any_access(source, n),
     }
 }
@@ -84,7 +90,8 @@ fn share(n: usize, i: usize, asked: &Call, reply: &Reply) -> Option<Vec<u8>> {
         | Call::Brightness { driver, .. }
         | Call::Shown { driver }
         | Call::Interrupt { driver }
-        | Call::AnswerMark { driver } => *driver == i,
+        | Call::AnswerMark { driver }
+        | Call::LookBack { driver, .. } => *driver == i,
     };
     (own && reply.number == 0).then(|| reply.back.clone())
 }

@@ -1,7 +1,7 @@
 -- The power-up record is sound, and each step leaves a sound record sound.
 -- Assumes nothing.
 use Prim.Native.Nat.{ℕ, _+_}
-use mathlib.Core.Bool.{true}
+use mathlib.Core.Bool.{true, _&&_}
 use mathlib.Core.Path.{_≡_, refl}
 use lib.Dec.{ltb}
 use borrow.Author.Tests.{lt-ltb}
@@ -23,20 +23,26 @@ use Rattle.device.specs.Steps.{scanned, clocked}
 use Rattle.device.specs.Soundness.{Soundness}
 use Rattle.device.specs.declared.Device.{Device}
 
--- sound registers, and a mark of 0 or 1, make a sound record
-sound-with : (d : Device) (x : Registers) (m : ℕ) → soundRegisters x ≡ true → ltb m 2 ≡ true → soundOf (withMark (withRegisters d x) m) ≡ true
-sound-with d x m e h = rw (e, h)
+-- sound registers, a mark of 0 or 1 and a command address below 128 make a sound record
+sound-with : (d : Device) (x : Registers) (m : ℕ) → soundRegisters x ≡ true → ltb m 2 ≡ true → ltb (d .command) 128 ≡ true → soundOf (withMark (withRegisters d x) m) ≡ true
+sound-with d x m e h g = rw (e, h, g)
 
-registers-sound : (d : Device) → soundOf d ≡ true → soundRegisters (d .registers) ≡ true
-registers-sound d e = and-left (soundRegisters (d .registers)) (ltb (d .«answer_mark») 2) e
+pub registers-sound : (d : Device) → soundOf d ≡ true → soundRegisters (d .registers) ≡ true
+registers-sound d e = and-left (soundRegisters (d .registers)) (ltb (d .«answer_mark») 2) (and-left (soundRegisters (d .registers) && ltb (d .«answer_mark») 2) (ltb (d .command) 128) e)
+
+mark-sound : (d : Device) → soundOf d ≡ true → ltb (d .«answer_mark») 2 ≡ true
+mark-sound d e = and-right (soundRegisters (d .registers)) (ltb (d .«answer_mark») 2) (and-left (soundRegisters (d .registers) && ltb (d .«answer_mark») 2) (ltb (d .command) 128) e)
+
+command-sound : (d : Device) → soundOf d ≡ true → ltb (d .command) 128 ≡ true
+command-sound d e = and-right (soundRegisters (d .registers) && ltb (d .«answer_mark») 2) (ltb (d .command) 128) e
 
 -- a step that changes registers alone
 kept-mark : (d : Device) (x : Registers) → (soundRegisters (d .registers) ≡ true → soundRegisters x ≡ true) → soundOf d ≡ true → soundOf (withRegisters d x) ≡ true
-kept-mark d x f e = sound-with d x (d .«answer_mark») (f (registers-sound d e)) (and-right (soundRegisters (d .registers)) (ltb (d .«answer_mark») 2) e)
+kept-mark d x f e = sound-with d x (d .«answer_mark») (f (registers-sound d e)) (mark-sound d e) (command-sound d e)
 
 obeyed-sound : (d : Device) (w : Word) → soundOf d ≡ true → soundOf (obeyed d w) ≡ true
-obeyed-sound d (Write r v) e = sound-with d (written (d .registers) r v) 0 (write-sound (d .registers) r v (registers-sound d e)) refl
-obeyed-sound d (Read r) e = sound-with d (afterRead (d .registers) r) 1 (after-sound (d .registers) r (registers-sound d e)) refl
+obeyed-sound d (Write r v) e = sound-with d (written (d .registers) r v) 0 (write-sound (d .registers) r v (registers-sound d e)) refl (command-sound d e)
+obeyed-sound d (Read r) e = sound-with d (afterRead (d .registers) r) 1 (after-sound (d .registers) r (registers-sound d e)) refl (command-sound d e)
 
 taken-sound : (d : Device) (w : ℕ) → soundOf d ≡ true → soundOf (taken d w) ≡ true
 unfolding taken
@@ -57,4 +63,5 @@ soundness =
       after-scan = scan-sound;
       after-pins = λ d levels h. kept-mark d (withPins d levels .registers) (pins-sound (d .registers) levels (lt-ltb levels 32 h));
       after-clocks = λ d clocks. kept-mark d (clocked d clocks .registers) (blink-sound (d .registers) (advanced (d .registers .blink) clocks) (mod-small (d .registers .blink + clocks) 3999999));
+      after-command = λ d a h e. rw (registers-sound d e, mark-sound d e, lt-ltb a 128 h);
     }

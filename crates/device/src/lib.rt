@@ -29,6 +29,8 @@ pub struct Device {
     pub fitted: u8,
     // 1 where the word last taken was a read, else 0.
     pub answer_mark: u8,
+    // The command address of the two-wire bus, seven bits.
+    pub command: u8,
 }
 
 impl Device {
@@ -62,6 +64,7 @@ impl Device {
         shift: 0,
         fitted: 255,
         answer_mark: 0,
+        command: 0,
     };
 
     pub fn new() -> Device
@@ -179,7 +182,8 @@ impl Device {
         )
     }
 
-    // Whether every field fits its register's width, the blink count is below 4,000,000 and the answer mark is 0 or 1.
+    // Whether every field fits its register's width, the blink count is below 4,000,000, the answer mark is 0 or 1
+    // and the command address is below 128.
     pub fn sound(self) -> bool
         ensures { λ r. ⌜ r ≡ soundOf self ⌝ }
     {
@@ -193,7 +197,7 @@ impl Device {
             & (x.keys.interrupt < 2)
             & (x.pins < 32)
             & (x.blink < 4000000);
-        registers & (self.answer_mark < 2)
+        registers & (self.answer_mark < 2) & (self.command < 128)
     }
 }
 

@@ -74,10 +74,10 @@ free-any P c m w (suc zero) g = m
 free-any P c m w (suc (suc zero)) g = w
 free-any P c m w (suc (suc (suc p))) g = absurd (omega arith)
 
-state-part : (b : Bus) → 1 ≤ b .part → stateOf b ≡ transfer (b .part) (useAt (b .phase))
+pub state-part : (b : Bus) → 1 ≤ b .part → stateOf b ≡ transfer (b .part) (useAt (b .phase))
 state-part b h = rw (ne-eqb (b .part) 0 (λ e. omega arith))
 
-state-free : (b : Bus) → b .part ≡ 0 → stateOf b ≡ freeAt (b .phase)
+pub state-free : (b : Bus) → b .part ≡ 0 → stateOf b ≡ freeAt (b .phase)
 state-free b e = rw (eq-eqb (b .part) 0 e)
 
 -- there and back

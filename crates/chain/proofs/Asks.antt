@@ -38,7 +38,7 @@ use Rattle.calls.specs.Served.{answerTo, refusedTo}
 use Rattle.calls.specs.Outcome.{outcome, Outcome}
 use Rattle.pass.specs.Found.{callRefusal}
 use Rattle.pass.proofs.FoundLaws.{in-range, own-zero, ask-served, ask-refused}
-use Rattle.lent.proofs.Records.{size, byte, device}
+use Rattle.lent.proofs.Records.{size, byte, device, recordBytes}
 use Rattle.lent.proofs.Walk.{Walk, lands-known, leave, leave-room, forks-to, proves}
 use Rattle.lent.proofs.Params.{Kind, held, inner, outer, inners, outers, type, Of, Seen, seen, seens, values, Args, sent, back, sent-back, sents, spelled, told, machine, Good, stays, goes, ends, fits, Had, has, typed-back, comes, sends, doubled, locals-of, operands, after, env, spot-after, found, alloc-all, pass-all, leave-all, opds-all, FnOf, calls-kinds}
 use Rattle.chain.proofs.Steps.{CallRefusal, numbers}
@@ -78,7 +78,7 @@ module _ (own refused work : Name) (k : ℕ) (Ks : List (Kind k)) (R : Kind k) (
         (seq (assign (place (at 3) []) (op2 ne (copy (place (at 1) [])) (int w8 0)))
         (seq (cond (copy (place (at 3) [])) (seq (call refused (copy (place (at 1) []) ∷ operands (λ j. suc (suc (suc j))) Ks) (place 0 [])) return) skip)
         (seq (assign (place (at 2) []) (op2 (minus unsigned) (copy (place 2 [])) (int w64 1)))
-        (seq (assign (place (at 4) []) (op2 (mul unsigned) (copy (place (at 2) [])) (int w64 80)))
+        (seq (assign (place (at 4) []) (op2 (mul unsigned) (copy (place (at 2) [])) (int w64 recordBytes)))
         (seq (assign (place (at 5) []) (op2 offset (copy (place 1 (field 0 ∷ []))) (copy (place (at 4) []))))
         (seq (assign (place (at 6) []) (rvOpd (copy (place (at 5) (deref (device .ty) ∷ [])))))
         (seq (call work (copy (place (at 6) []) ∷ operands (λ j. suc (suc (suc j))) Ks) (place 0 [])) return))))))));
@@ -170,9 +170,9 @@ module _ (own refused work : Name) (k : ℕ) (Ks : List (Kind k)) (R : Kind k) (
         let l : i < length ys = omega (arith, there .0, there .1) in
         let d : Device = getD ys i powerUp in
         assigns ! (bin ! (load ! (from ! (stop !)) (look ! 19 refl)) (lit ! tt) (there .0)) (found ! (spot 2) (stop !)) (init ! 13 refl (tt, record { fits = omega (arith, l, is-x .0 .1 .0) })) $
-        assigns ! (bin ! (load ! (found ! (spot 2) (stop !)) (look ! 13 refl)) (lit ! tt) (scaled-fits i (length ys) 80 l (is-x .0 .1 .1))) (found ! (spot 4) (stop !)) (init ! 9 refl (tt, scaled-fits i (length ys) 80 l (is-x .0 .1 .1))) $
+        assigns ! (bin ! (load ! (found ! (spot 2) (stop !)) (look ! 13 refl)) (lit ! tt) (scaled-fits i (length ys) recordBytes l (is-x .0 .1 .1))) (found ! (spot 4) (stop !)) (init ! 9 refl (tt, scaled-fits i (length ys) recordBytes l (is-x .0 .1 .1))) $
         assigns ! (bin ! (load ! (from ! (fld ! refl (stop !))) (look-in ! 21 (sub ! 0 refl (whole !)))) (load ! (found ! (spot 4) (stop !)) (look ! 9 refl)) tt) (found ! (spot 5) (stop !)) (init ! 7 refl (tt, tt)) $
-        rewrite ! 7 (λ (p : ℕ). ‵ (fat fullShare tyPtr m₅ 0 (vptr b p))) (sym (place-is 80 o i)) refl $
+        rewrite ! 7 (λ (p : ℕ). ‵ (fat fullShare tyPtr m₅ 0 (vptr b p))) (sym (place-is recordBytes o i)) refl $
         move ! (4 ∷ []) $ fsplit ! $ pureL ! (at-slice (device .row) x (slice-vals x)) (λ _. fsplit ! $ move ! (2 ∷ []) $ split ! $ move ! (3 ∷ 0 ∷ []) $
         looks-slice ! tt (device .row) (Is (device .row)) (shows 𝓤 H A (device .row)) (λ d. device .val d ∷ []) (device .tells) (LL.copy T.the-type T′.the-copy 𝓤 H A W) ys b o (λ q′.
         -- [the records; the open borrow; the borrow; true; res; the other tokens; the parameters; what the callee asks of them; the seven locals, from 8; ..]

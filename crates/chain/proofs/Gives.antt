@@ -34,7 +34,7 @@ use Rattle.calls.specs.Served.{stepped}
 use Rattle.calls.specs.Outcome.{outcome}
 use Rattle.pass.specs.Found.{callRefusal}
 use Rattle.pass.proofs.FoundLaws.{in-range, give-served, give-refused}
-use Rattle.lent.proofs.Records.{size, byte, device}
+use Rattle.lent.proofs.Records.{size, byte, device, recordBytes}
 use Rattle.lent.proofs.Walk.{Walk, lands-known, leave, leave-room, joins, proves}
 use Rattle.lent.proofs.Params.{Kind, held, inners, outers, Seen, seens, values, Args, sents, spelled, told, machine, Good, stays, goes, ends, fits, Had, has, sends, doubled, locals-of, operands, after, env, spot-after, found, alloc-all, pass-all, leave-all, opds-all, FnOf, calls-kinds}
 use Rattle.chain.proofs.Steps.{ref, CallRefusal, numbers-mut}
@@ -68,12 +68,12 @@ module _ (own work : Name) (k : ℕ) (Ks : List (Kind k)) (step : Seen Ks → St
         (seq (assign (place (at 6) []) (op2 eq (copy (place (at 1) [])) (int w8 0)))
         (seq (cond (copy (place (at 6) []))
         (seq (assign (place (at 2) []) (op2 (minus unsigned) (copy (place 2 [])) (int w64 1)))
-        (seq (assign (place (at 7) []) (op2 (mul unsigned) (copy (place (at 2) [])) (int w64 80)))
+        (seq (assign (place (at 7) []) (op2 (mul unsigned) (copy (place (at 2) [])) (int w64 recordBytes)))
         (seq (assign (place (at 8) []) (op2 offset (copy (place 1 (field 0 ∷ []))) (copy (place (at 7) []))))
         (seq (assign (place (at 9) []) (rvOpd (copy (place (at 8) (deref (device .ty) ∷ [])))))
         (seq (assign (place (at 3) []) (rvOpd (copy (place (at 9) []))))
         (seq (call work (copy (place (at 3) []) ∷ operands (λ j. suc (suc (suc j))) Ks) (place (at 9) []))
-        (seq (assign (place (at 7) []) (op2 (mul unsigned) (copy (place (at 2) [])) (int w64 80)))
+        (seq (assign (place (at 7) []) (op2 (mul unsigned) (copy (place (at 2) [])) (int w64 recordBytes)))
         (seq (assign (place (at 10) []) (op2 offset (copy (place 1 (field 0 ∷ []))) (copy (place (at 7) []))))
         (assign (place (at 10) (deref (device .ty) ∷ [])) (rvOpd (copy (place (at 9) []))))))))))))
         skip)
@@ -150,9 +150,9 @@ module _ (own work : Name) (k : ℕ) (Ks : List (Kind k)) (step : Seen Ks → St
         let d : Device = getD ys i powerUp in
         let e : Device = stepped st d in
         assigns ! (bin ! (load ! (from ! (stop !)) (look ! 29 refl)) (lit ! tt) (there .0)) (found ! (spot 2) (stop !)) (init ! 23 refl (tt, record { fits = omega (arith, l, room .0) })) $
-        assigns ! (bin ! (load ! (found ! (spot 2) (stop !)) (look ! 23 refl)) (lit ! tt) (scaled-fits i (length ys) 80 l (room .1))) (found ! (spot 7) (stop !)) (init ! 13 refl (tt, scaled-fits i (length ys) 80 l (room .1))) $
+        assigns ! (bin ! (load ! (found ! (spot 2) (stop !)) (look ! 23 refl)) (lit ! tt) (scaled-fits i (length ys) recordBytes l (room .1))) (found ! (spot 7) (stop !)) (init ! 13 refl (tt, scaled-fits i (length ys) recordBytes l (room .1))) $
         assigns ! (bin ! (load ! (from ! (fld ! refl (stop !))) (look-in ! 31 (sub ! 0 refl (whole !)))) (load ! (found ! (spot 7) (stop !)) (look ! 13 refl)) tt) (found ! (spot 8) (stop !)) (init ! 11 refl (tt, tt)) $
-        rewrite ! 11 (λ (p : ℕ). ‵ (fat fullShare tyPtr m₈ 0 (vptr b p))) (sym (place-is 80 o i)) refl $
+        rewrite ! 11 (λ (p : ℕ). ‵ (fat fullShare tyPtr m₈ 0 (vptr b p))) (sym (place-is recordBytes o i)) refl $
         elem-out ! (device .row) (Is (device .row)) (shows 𝓤 H A (device .row)) (λ x. device .val x ∷ []) (device .tells) fullShare ys i powerUp b o l (λ is-d.
         assigns ! (of-opd ! (load ! (found ! (spot 8) (hop ! (look ! 13 refl) (stop !))) (look-raw ! 0 refl))) (found ! (spot 9) (stop !)) (init ! 11 refl (device .typed 𝓤 H A W d is-d)) $
         elem-back ! (device .row) fullShare ys i powerUp (device .val d ∷ []) b o l $
@@ -163,9 +163,9 @@ module _ (own work : Name) (k : ℕ) (Ks : List (Kind k)) (step : Seen Ks → St
         calls-kinds ! (fmOf 𝓤 H (W .laws) 𝓣) (held device ∷ Ks) (held device) ψ-work known-work (κs .1) (qs .1) (d, sents κs Ks xs)
         (and-then ! (load ! (found ! (spot 3) (stop !)) (look ! 21 refl)) (opds-all (κs .1) ! Ks bs (sents κs Ks xs) (λ i. suc (suc (suc i))) E (λ i. refl))) (λ w′ r′ e′.
         lands-known ! device e w′ r′ e′ (λ is-e wt-e. land ! (found ! (spot 9) (stop !)) (store ! 9 refl wt-e) $ move ! (3 ∷ 4 ∷ 5 ∷ 6 ∷ 0 ∷ 1 ∷ 2 ∷ []) $
-        assigns ! (bin ! (load ! (found ! (spot 2) (stop !)) (look ! 23 refl)) (lit ! tt) (scaled-fits i (length ys) 80 l (room .1))) (found ! (spot 7) (stop !)) (store ! 13 refl (tt, scaled-fits i (length ys) 80 l (room .1))) $
+        assigns ! (bin ! (load ! (found ! (spot 2) (stop !)) (look ! 23 refl)) (lit ! tt) (scaled-fits i (length ys) recordBytes l (room .1))) (found ! (spot 7) (stop !)) (store ! 13 refl (tt, scaled-fits i (length ys) recordBytes l (room .1))) $
         assigns ! (bin ! (load ! (from ! (fld ! refl (stop !))) (look-in ! 31 (sub ! 0 refl (whole !)))) (load ! (found ! (spot 7) (stop !)) (look ! 13 refl)) tt) (found ! (spot 10) (stop !)) (init ! 7 refl (tt, tt)) $
-        rewrite ! 7 (λ (p : ℕ). ‵ (fat fullShare tyPtr p₀ 0 (vptr b p))) (sym (place-is 80 o i)) refl $
+        rewrite ! 7 (λ (p : ℕ). ‵ (fat fullShare tyPtr p₀ 0 (vptr b p))) (sym (place-is recordBytes o i)) refl $
         elem-out ! (device .row) (Is (device .row)) (shows 𝓤 H A (device .row)) (λ x. device .val x ∷ []) (device .tells) fullShare ys i powerUp b o l (λ _.
         assigns-last ! (of-opd ! (load ! (found ! (spot 9) (stop !)) (look ! 11 refl))) (found ! (spot 10) (hop ! (look ! 9 refl) (stop !))) (store-raw ! 0 refl wt-e) $
         move ! (1 ∷ []) $ drop ! $ owned ! (device .row) (Is (device .row)) (device .makes 𝓤 H A W) e (device .val e ∷ []) is-e $ move ! (1 ∷ 0 ∷ []) $ elem-put ! (device .row) fullShare ys i e (device .val e ∷ []) b o l $

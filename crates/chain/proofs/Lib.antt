@@ -2,3 +2,5 @@ pub mod Answers
 pub mod Steps
 pub mod Gives
 pub mod Asks
+pub mod Moves
+pub mod Bytes

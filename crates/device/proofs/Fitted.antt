@@ -7,6 +7,7 @@ use Rattle.words.specs.declared.Word.{Word}
 use Rattle.words.specs.declared.Word.the-variants.{Write, Read}
 use Rattle.device.specs.Record.{withShift}
 use Rattle.device.specs.Taken.{obeyed, taken}
+use Rattle.device.specs.TwoWire.{commanded, received, sent}
 use Rattle.device.specs.FittedByte.{FittedByte}
 use Rattle.device.specs.declared.Device.{Device}
 
@@ -19,9 +20,13 @@ unfolding taken
 taken-fitted d w = obeyed-fitted (withShift d w) (wordOf w)
 
 pub fitted-byte : FittedByte
+unfolding commanded received sent
 fitted-byte = record {
   after-word = taken-fitted;
   after-scan = λ x a b c d. refl;
   after-pins = λ d levels. refl;
   after-clocks = λ d clocks. refl;
+  after-commanded = λ d v. refl;
+  after-received = λ d v. refl;
+  after-sent = λ d. refl;
 }

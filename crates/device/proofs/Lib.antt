@@ -3,3 +3,4 @@ pub mod PoweredUp
 pub mod Shift
 pub mod Fitted
 pub mod Sound
+pub mod Both

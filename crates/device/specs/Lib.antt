@@ -3,8 +3,10 @@ pub mod PowerUp
 pub mod Sound
 pub mod Taken
 pub mod Steps
+pub mod TwoWire
 pub mod Soundness
 pub mod ShiftWord
 pub mod FittedByte
+pub mod BothBuses
 pub mod Table15
 pub mod Examples

@@ -22,7 +22,7 @@ config = record { i = 0; e = 0; b = 0; s = 0 }
 abbrev pub planes : Planes
 planes = record { p0 = eight 0x20 ++ eight 0; p1 = eight 0x20 ++ eight 0 }
 
--- intensities 1/16 (0); no mask set, no key pressed or debounced; pins, blink count and shift word 0; fitted 255; document 02, request 1: the answer mark 0
+-- intensities 1/16 (0); no mask set, no key pressed or debounced; pins, blink count and shift word 0; fitted 255; document 02, requests 1 and 3: the answer mark and the command address 0
 abbrev pub powerUp : Device
 powerUp =
     record {
@@ -39,6 +39,7 @@ powerUp =
       shift = 0;
       fitted = 255;
       «answer_mark» = 0;
+      command = 0;
     }
 
 -- a chain of n drivers at power-up

@@ -8,7 +8,7 @@ use Rattle.device.specs.declared.Device.{Device}
 
 -- all that registers hold
 abbrev pub withRegisters : Device → Registers → Device
-withRegisters d x = record { registers = x; shift = d .shift; fitted = d .fitted; «answer_mark» = d .«answer_mark» }
+withRegisters d x = record { registers = x; shift = d .shift; fitted = d .fitted; «answer_mark» = d .«answer_mark»; command = d .command }
 
 -- the key state
 abbrev pub withKeys : Device → Keys → Device
@@ -24,12 +24,16 @@ withBlink d n = withRegisters d (blinkReplaced (d .registers) n)
 
 -- the 16-bit shift word
 abbrev pub withShift : Device → ℕ → Device
-withShift d w = record { registers = d .registers; shift = w; fitted = d .fitted; «answer_mark» = d .«answer_mark» }
+withShift d w = record { registers = d .registers; shift = w; fitted = d .fitted; «answer_mark» = d .«answer_mark»; command = d .command }
 
 -- the fitted byte
 abbrev pub withFitted : Device → ℕ → Device
-withFitted d n = record { registers = d .registers; shift = d .shift; fitted = n; «answer_mark» = d .«answer_mark» }
+withFitted d n = record { registers = d .registers; shift = d .shift; fitted = n; «answer_mark» = d .«answer_mark»; command = d .command }
 
 -- the answer mark
 abbrev pub withMark : Device → ℕ → Device
-withMark d m = record { registers = d .registers; shift = d .shift; fitted = d .fitted; «answer_mark» = m }
+withMark d m = record { registers = d .registers; shift = d .shift; fitted = d .fitted; «answer_mark» = m; command = d .command }
+
+-- the command address of the two-wire bus
+abbrev pub withCommand : Device → ℕ → Device
+withCommand d a = record { registers = d .registers; shift = d .shift; fitted = d .fitted; «answer_mark» = d .«answer_mark»; command = a }

@@ -10,6 +10,7 @@ use Rattle.device.specs.PowerUp.{powerUp}
 use Rattle.device.specs.Sound.{soundOf}
 use Rattle.device.specs.Taken.{taken}
 use Rattle.device.specs.Steps.{scanned, clocked}
+use Rattle.device.specs.TwoWire.{commanded, received, sent}
 use Rattle.device.specs.declared.Device.{Device}
 
 -- each step leaves a sound record sound; pin levels do if they are five bits
@@ -21,3 +22,6 @@ pub record Soundness : Type 0 where
   pub after-scan : (x : Device) (a b c d : ℕ) → soundOf x ≡ true → soundOf (scanned x a b c d) ≡ true
   pub after-pins : (d : Device) (levels : ℕ) → levels < 32 → soundOf d ≡ true → soundOf (withPins d levels) ≡ true
   pub after-clocks : (d : Device) (clocks : ℕ) → soundOf d ≡ true → soundOf (clocked d clocks) ≡ true
+  pub after-commanded : (d : Device) (v : ℕ) → soundOf d ≡ true → soundOf (commanded d v) ≡ true
+  pub after-received : (d : Device) (v : ℕ) → soundOf d ≡ true → soundOf (received d v) ≡ true
+  pub after-sent : (d : Device) → soundOf d ≡ true → soundOf (sent d) ≡ true

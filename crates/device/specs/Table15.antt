@@ -86,8 +86,8 @@ pub record Table15 : Type 0 where
   pub rows-written : afterWords full (map (λ (row : ℕ × ℕ). row .0 * 256 + row .1) table15) .registers ≡ powerUp .registers
   -- the reports read so
   pub rows-read : map (λ (row : ℕ × ℕ). taken powerUp (row .0 * 256) .shift % 256) reports15 ≡ map (λ (row : ℕ × ℕ). row .1) reports15
-  -- shift word, blink count, pins and the interrupt 0, fitted 255; document 02, request 1: the answer mark 0
-  pub beside : powerUp .shift ∷ powerUp .registers .blink ∷ powerUp .registers .pins ∷ powerUp .registers .keys .interrupt ∷ powerUp .fitted ∷ powerUp .«answer_mark» ∷ []
-      ≡ 0 ∷ 0 ∷ 0 ∷ 0 ∷ 255 ∷ 0 ∷ []
+  -- shift word, blink count, pins and the interrupt 0, fitted 255; document 02, requests 1 and 3: the answer mark and the command address 0
+  pub beside : powerUp .shift ∷ powerUp .registers .blink ∷ powerUp .registers .pins ∷ powerUp .registers .keys .interrupt ∷ powerUp .fitted ∷ powerUp .«answer_mark» ∷ powerUp .command ∷ []
+      ≡ 0 ∷ 0 ∷ 0 ∷ 0 ∷ 255 ∷ 0 ∷ 0 ∷ []
   -- no key is held
   pub held : map (λ (g : KeyGroup). groupOf (powerUp .registers .keys) g .held) (A ∷ B ∷ C ∷ D ∷ []) ≡ 0 ∷ 0 ∷ 0 ∷ 0 ∷ []

@@ -1,14 +1,16 @@
 // One MAX6954 by value: its record, the word that it takes, and the other steps that change it.
 ghost use mathlib.Core.Path.{_≡_};
 ghost use Rattle.words.specs.declared.Word.the-variants.{Write, Read};
-ghost use Rattle.device.specs.Record.{withRegisters, withPins, withShift, withFitted, withMark};
+ghost use Rattle.device.specs.Record.{withRegisters, withPins, withShift, withFitted, withMark, withCommand};
 ghost use Rattle.device.specs.PowerUp.{powerUp};
 ghost use Rattle.device.specs.Sound.{soundOf};
 ghost use Rattle.device.specs.Taken.{answerWord, obeyed, taken};
 ghost use Rattle.device.specs.Steps.{scanned, clocked, shownPlane};
+ghost use Rattle.device.specs.TwoWire.{nextAddress, commanded, received, sentData, sent};
 ghost use Rattle.device.specs.Soundness.{Soundness};
 ghost use Rattle.device.specs.ShiftWord.{ShiftWord};
 ghost use Rattle.device.specs.FittedByte.{FittedByte};
+ghost use Rattle.device.specs.BothBuses.{BothBuses};
 ghost use Rattle.device.specs.Table15.{Table15};
 ghost use Rattle.device.specs.Examples.{Examples};
 use controls::Config;
@@ -29,6 +31,8 @@ pub struct Device {
     pub fitted: u8,
     // 1 where the word last taken was a read, else 0.
     pub answer_mark: u8,
+    // The command address of the two-wire bus, seven bits.
+    pub command: u8,
 }
 
 impl Device {
@@ -62,6 +66,7 @@ impl Device {
         shift: 0,
         fitted: 255,
         answer_mark: 0,
+        command: 0,
     };
 
     pub fn new() -> Device
@@ -103,6 +108,13 @@ impl Device {
         ensures { λ r. ⌜ r ≡ withMark self mark ⌝ }
     {
         self.answer_mark = mark;
+        self
+    }
+
+    fn with_command(mut self, address: u8) -> Device
+        ensures { λ r. ⌜ r ≡ withCommand self address ⌝ }
+    {
+        self.command = address;
         self
     }
 
@@ -167,6 +179,43 @@ impl Device {
         self.with_registers(registers)
     }
 
+    // A command byte of the two-wire bus: the address, its top bit ignored.
+    pub fn commanded(self, v: u8) -> Device
+        ensures { λ r. ⌜ r ≡ commanded self v ⌝ }
+    {
+        self.with_command(v % 128)
+    }
+
+    // A data byte of the two-wire bus, written at the command address, which then steps.
+    pub fn received(self, v: u8) -> Device
+        ensures { λ r. ⌜ r ≡ received self v ⌝ }
+    {
+        let a = self.command;
+        let old = self.registers;
+        let new = old.written(words::written_at(a), v);
+        let after = self.with_registers(new);
+        after.with_command(next_address(a))
+    }
+
+    // The data that the two-wire bus reads at the command address.
+    pub fn sent_data(self) -> u8
+        ensures { λ r. ⌜ r ≡ sentData self ⌝ }
+    {
+        let old = self.registers;
+        old.read_data(words::read_at(self.command))
+    }
+
+    // What that read leaves; the command address then steps.
+    pub fn sent(self) -> Device
+        ensures { λ r. ⌜ r ≡ sent self ⌝ }
+    {
+        let a = self.command;
+        let old = self.registers;
+        let new = old.read(words::read_at(a));
+        let after = self.with_registers(new);
+        after.with_command(next_address(a))
+    }
+
     // The plane shown.
     pub fn shown(self) -> Plane
         ensures { λ r. ⌜ r ≡ shownPlane self ⌝ }
@@ -179,7 +228,8 @@ impl Device {
         )
     }
 
-    // Whether every field fits its register's width, the blink count is below 4,000,000 and the answer mark is 0 or 1.
+    // Whether every field fits its register's width, the blink count is below 4,000,000, the answer mark is 0 or 1
+    // and the command address is below 128.
     pub fn sound(self) -> bool
         ensures { λ r. ⌜ r ≡ soundOf self ⌝ }
     {
@@ -193,7 +243,7 @@ impl Device {
             & (x.keys.interrupt < 2)
             & (x.pins < 32)
             & (x.blink < 4000000);
-        registers & (self.answer_mark < 2)
+        registers & (self.answer_mark < 2) & (self.command < 128)
     }
 }
 
@@ -202,6 +252,13 @@ fn answer_word(shift: u16, v: u8) -> u16
     ensures { λ r. ⌜ r ≡ answerWord shift v ⌝ }
 {
     shift / 256 * 256 + v as u16
+}
+
+// The command address after a data byte: it stays at 127.
+fn next_address(a: u8) -> u8
+    ensures { λ r. ⌜ r ≡ nextAddress a ⌝ }
+{
+    if a < 127 { a + 1 } else { 127 }
 }
 
 // A theorem: the power-up record is sound, and each step leaves a sound record sound.
@@ -217,6 +274,11 @@ pub fn shift_word()
 // A theorem: nothing that a driver is given changes its fitted byte.
 pub fn fitted_byte()
     ensures { λ _. ⌜ FittedByte ⌝ }
+{}
+
+// A theorem: a byte of the two-wire bus writes and reads the registers that a word does, and what touches the command address.
+pub fn both_buses()
+    ensures { λ _. ⌜ BothBuses ⌝ }
 {}
 
 // A theorem: the power-up record is what Table 15 says.

@@ -53,4 +53,5 @@ highTaken d w =
       shift = newShift w (getD (d .registers .planes .p0) (digitOf w) 0) (getD (d .registers .planes .p1) (digitOf w) 0);
       fitted = d .fitted;
       «answer_mark» = newMark w;
+      command = d .command;
     }

@@ -55,7 +55,11 @@ device = rec D.the-type D′.the-laws D′.the-plain D′.the-copy
 pub half-sized : Sized half 2
 half-sized = record { one = refl; size = refl; small = tt }
 
-pub device-sized : Sized device 80
+-- the bytes of a record
+abbrev pub recordBytes : ℕ
+recordBytes = 84
+
+pub device-sized : Sized device recordBytes
 device-sized = record { one = refl; size = refl; small = tt }
 
 abbrev pub widths : Data
@@ -96,6 +100,7 @@ stored d k y z s m =
       shift = s;
       fitted = d .fitted;
       «answer_mark» = m;
+      command = d .command;
     }
 
 pub is-stored : (d : Device) (k y z s m : ℕ) → y < 2 ^ 8 → z < 2 ^ 8 → s < 2 ^ 16 → m < 2 ^ 8 → Is (device .row) d (device .val d ∷ []) → Is (device .row) (stored d k y z s m) (device .val (stored d k y z s m) ∷ [])
@@ -106,11 +111,11 @@ is-stored d k y z s m hy hz hs hm is =
     let ps = planes-of d is in
     let q = LL.owes Q.the-type Q′.the-laws (e .registers .planes) (is-set 16 (d .registers .planes .p0) _ (ps .0) k y hy, (is-set 16 (d .registers .planes .p1) _ (ps .1) k z hz, tt)) in
     let g = LL.owes G.the-type G′.the-laws (e .registers) (r .0, (r .1 .0, (r .1 .1 .0, (r .1 .1 .1 .0, (q, r .1 .1 .1 .1 .1))))) in
-    LL.owes D.the-type D′.the-laws e (g, ((refl, hs), (a .1 .1 .0, ((refl, hm), tt))))
+    LL.owes D.the-type D′.the-laws e (g, ((refl, hs), (a .1 .1 .0, ((refl, hm), (a .1 .1 .1 .1 .0, tt)))))
 
--- ---- a record in memory, by the machine values of its fields: y and z are its planes, s its shift word and m its answer mark
-abbrev pub Cell : {M : Type 1} (𝓤 : URA M) → Share → ℕ → ℕ → (c f e g w h t y z s m : Val) → Item 𝓤
-Cell 𝓤 q b o c f e g w h t y z s m = ‵ (fat q (raw (device .ty)) b o (vstruct (ofList (vstruct (ofList (c ∷ f ∷ e ∷ g ∷ vstruct (ofList (y ∷ z ∷ [])) ∷ w ∷ h ∷ [])) ∷ s ∷ t ∷ m ∷ []))))
+-- ---- a record in memory, by the machine values of its fields: y and z are its planes, s its shift word, m its answer mark and a its command address
+abbrev pub Cell : {M : Type 1} (𝓤 : URA M) → Share → ℕ → ℕ → (c f e g w h t a y z s m : Val) → Item 𝓤
+Cell 𝓤 q b o c f e g w h t a y z s m = ‵ (fat q (raw (device .ty)) b o (vstruct (ofList (vstruct (ofList (c ∷ f ∷ e ∷ g ∷ vstruct (ofList (y ∷ z ∷ [])) ∷ w ∷ h ∷ [])) ∷ s ∷ t ∷ m ∷ a ∷ []))))
 
 module _ {M : Type 1} {𝓤 : URA M} {H : Heap 𝓤} {A : Atoms 𝓤} {K : Type 0} {W : Given 𝓤 H A} {b o : ℕ} where
   -- where the four lie
@@ -128,19 +133,19 @@ module _ {M : Type 1} {𝓤 : URA M} {H : Heap 𝓤} {A : Atoms 𝓤} {K : Type 
     at-mark t = fld t refl (stop t)
 
   -- their cells within the record's
-  module _ {q : Share} {c f e g w h t y z s m : Val} where
-    pub in-p0 : K → Part K W (Cell 𝓤 q b o c f e g w h t y z s m) q (tyArray (tyInt w8) 16) b (o + 0 + 36 + 0) y (λ u. Cell 𝓤 q b o c f e g w h t u z s m)
+  module _ {q : Share} {c f e g w h t a y z s m : Val} where
+    pub in-p0 : K → Part K W (Cell 𝓤 q b o c f e g w h t a y z s m) q (tyArray (tyInt w8) 16) b (o + 0 + 36 + 0) y (λ u. Cell 𝓤 q b o c f e g w h t a u z s m)
     in-p0 k = sub k 0 refl (sub k 4 refl (sub k 0 refl (whole k)))
 
-    pub in-p1 : K → Part K W (Cell 𝓤 q b o c f e g w h t y z s m) q (tyArray (tyInt w8) 16) b (o + 0 + 36 + 16) z (λ u. Cell 𝓤 q b o c f e g w h t y u s m)
+    pub in-p1 : K → Part K W (Cell 𝓤 q b o c f e g w h t a y z s m) q (tyArray (tyInt w8) 16) b (o + 0 + 36 + 16) z (λ u. Cell 𝓤 q b o c f e g w h t a y u s m)
     in-p1 k = sub k 1 refl (sub k 4 refl (sub k 0 refl (whole k)))
 
-    pub in-shift : K → Part K W (Cell 𝓤 q b o c f e g w h t y z s m) q (tyInt w16) b (o + 76) s (λ u. Cell 𝓤 q b o c f e g w h t y z u m)
+    pub in-shift : K → Part K W (Cell 𝓤 q b o c f e g w h t a y z s m) q (tyInt w16) b (o + 76) s (λ u. Cell 𝓤 q b o c f e g w h t a y z u m)
     in-shift k = sub k 1 refl (whole k)
 
-    pub in-mark : K → Part K W (Cell 𝓤 q b o c f e g w h t y z s m) q (tyInt w8) b (o + 79) m (λ u. Cell 𝓤 q b o c f e g w h t y z s u)
+    pub in-mark : K → Part K W (Cell 𝓤 q b o c f e g w h t a y z s m) q (tyInt w8) b (o + 79) m (λ u. Cell 𝓤 q b o c f e g w h t a y z s u)
     in-mark k = sub k 3 refl (whole k)
 
   -- the shift word of a record in a local
-  pub local-shift : K → {q : Share} {r s t m : Val} → Part K W (‵ (fat q (device .ty) b o (vstruct (ofList (r ∷ s ∷ t ∷ m ∷ []))))) q (tyInt w16) b (o + 76) s (λ u. ‵ (fat q (device .ty) b o (vstruct (ofList (r ∷ u ∷ t ∷ m ∷ [])))))
+  pub local-shift : K → {q : Share} {r s t m a : Val} → Part K W (‵ (fat q (device .ty) b o (vstruct (ofList (r ∷ s ∷ t ∷ m ∷ a ∷ []))))) q (tyInt w16) b (o + 76) s (λ u. ‵ (fat q (device .ty) b o (vstruct (ofList (r ∷ u ∷ t ∷ m ∷ a ∷ [])))))
   local-shift k = sub k 1 refl (whole k)

@@ -133,7 +133,8 @@ module _ (w : Widths) (d : Device) (y : Bytes d) where
       let keys = or-small 1 (w .interrupt) (d .registers .keys .interrupt) in
       let pins = or-small 5 (w .pins) (d .registers .pins) in
       let blink = greater-small 4000000 (w .blink) (d .registers .blink) in
-      cross (cross (cross (cross (cross controls config) keys) pins) blink) (or-small 1 (w .mark) (d .«answer_mark»)) .same
+      let registers = cross (cross (cross (cross controls config) keys) pins) blink in
+      cross (cross registers (or-small 1 (w .mark) (d .«answer_mark»))) (or-small 7 (w .command) (d .command)) .same
 
 -- ---- all records
 fit-of : (w : Widths) (ds : List Device) → AllBytes ds → fit (widthsOf w ds) ≡ fit w && allSound ds

@@ -34,7 +34,7 @@ lastBytes x = twoBytes (x .registers .config .b) (x .registers .config .s)
 
 -- of no record
 abbrev pub noWidths : Widths
-noWidths = record { first = 0; last = 0; pins = 0; blink = 0; interrupt = 0; mark = 0 }
+noWidths = record { first = 0; last = 0; pins = 0; blink = 0; interrupt = 0; mark = 0; command = 0 }
 
 -- of one record more: its fields' bits over those that are there, and the greater blink count
 abbrev pub widthsWith : Widths → Device → Widths
@@ -46,6 +46,7 @@ widthsWith w x =
       blink = greater (w .blink) (x .registers .blink);
       interrupt = bitOr (w .interrupt) (x .registers .keys .interrupt);
       mark = bitOr (w .mark) (x .«answer_mark»);
+      command = bitOr (w .command) (x .command);
     }
 
 -- of records, one after the other
@@ -62,6 +63,7 @@ fit w =
     && ltb (w .pins) 32
     && ltb (w .blink) 4000000
     && ltb (w .mark) 2
+    && ltb (w .command) 128
 
 -- a record whose bytes are bytes
 pub record Bytes (d : Device) : Type 0 where

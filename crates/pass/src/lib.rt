@@ -20,6 +20,7 @@ pub struct Widths {
     pub blink: u32,
     pub interrupt: u8,
     pub mark: u8,
+    pub command: u8,
 }
 
 // Eight bytes in a row, the first lowest.
@@ -62,6 +63,7 @@ impl Widths {
             blink: 0,
             interrupt: 0,
             mark: 0,
+            command: 0,
         }
     }
 
@@ -90,6 +92,7 @@ impl Widths {
             blink: greater(self.blink, x.blink),
             interrupt: self.interrupt | k.interrupt,
             mark: self.mark | d.answer_mark,
+            command: self.command | d.command,
         }
     }
 
@@ -110,7 +113,7 @@ impl Widths {
             & (self.interrupt < 2)
             & (self.pins < 32)
             & (self.blink < 4000000);
-        registers & (self.mark < 2)
+        registers & (self.mark < 2) & (self.command < 128)
     }
 }
 

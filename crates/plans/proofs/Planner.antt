@@ -17,10 +17,10 @@ use Rattle.digits.specs.Digits.{cleared}
 use Rattle.digits.specs.declared.Planes.{Planes}
 use Rattle.controls.specs.Config.{soundConfig}
 use Rattle.controls.specs.declared.Config.{Config}
-use Rattle.registers.specs.Sound.{soundRegisters}
 use Rattle.registers.proofs.Sound.{parts}
 use Rattle.device.specs.Sound.{soundOf}
 use Rattle.device.specs.declared.Device.{Device}
+use Rattle.device.proofs.Sound.{registers-sound}
 use Rattle.plans.specs.Words.{allowedBy, allowed, every, Accepted, Sized, Wanted}
 use Rattle.plans.specs.Least.{needBy, needAt, total, plain, anew, least}
 use Rattle.plans.specs.Plan.{put0, put1, putBoth, clearWord, wordsBy, digitWordsAt, steps, clears, planBy, planOf}
@@ -235,7 +235,7 @@ plan-accepted d q s z w = go (clears p q)
     c = d .registers .config
 
     bits : (c .i < 2) × (c .e < 2) × (c .b < 2) × (c .s < 2)
-    bits = config-bits c (parts (d .registers) (and-left (soundRegisters (d .registers)) (ltb (d .«answer_mark») 2) s) .config)
+    bits = config-bits c (parts (d .registers) (registers-sound d s) .config)
 
     accepted : (ws : List ℕ) → every (allowed d) ws ≡ true → drawn p ws ≡ q → Accepted d q ws
     accepted ws h e = record { alone = h; ends = after-planes ws d h ∙ e }

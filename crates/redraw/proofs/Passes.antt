@@ -35,7 +35,7 @@ use Rattle.pass.specs.Found.{toPass}
 use Rattle.pass.proofs.FoundLaws.{pass-below}
 use Rattle.pass.proofs.to_pass as look′
 use Rattle.pass.proofs.to_pass.Symbol as look-def
-use Rattle.lent.proofs.Records.{size, byte, device}
+use Rattle.lent.proofs.Records.{size, byte, device, recordBytes}
 use Rattle.lent.proofs.Walk.{Data, Walk, calls-value, lands-known, leave, leave-room, tests, whiles, proves}
 use Rattle.lent.proofs.Params.{Kind, held, inners, outers, Seen, seens, values, Args, sents, spelled, told, machine, Good, stays, goes, ends, fits, Had, has, sends, doubled, locals-of, operands, after, env, spot-after, found, alloc-all, pass-all, leave-all, opds-all, FnOf, calls-kinds}
 
@@ -68,7 +68,7 @@ module _ (turn : Name) (k : ℕ) (Ks : List (Kind k)) (S : Data) (o : Operand) (
         (seq (assign (place (at 3) []) (rvOpd (int w64 0)))
         (seq (block (loop (seq (assign (place (at 4) []) (op2 (lt unsigned) (copy (place (at 3) [])) (copy (place (at 1) []))))
         (seq (cond (copy (place (at 4) [])) skip (exit 1))
-        (seq (assign (place (at 5) []) (op2 (mul unsigned) (copy (place (at 3) [])) (int w64 80)))
+        (seq (assign (place (at 5) []) (op2 (mul unsigned) (copy (place (at 3) [])) (int w64 recordBytes)))
         (seq (assign (place (at 6) []) (op2 offset (copy (place 1 (field 0 ∷ []))) (copy (place (at 5) []))))
         (seq (assign (place (at 7) []) (rvOpd (copy (place (at 6) (deref (device .ty) ∷ [])))))
         (seq (call turn (copy (place (at 2) []) ∷ copy (place (at 3) []) ∷ copy (place (at 7) []) ∷ operands (λ j. suc (suc (suc j))) Ks) (place (at 2) []))
@@ -147,9 +147,9 @@ module _ (turn : Name) (k : ℕ) (Ks : List (Kind k)) (S : Data) (o : Operand) (
         let l : i < m = ltb→lt i m more in
         let l′ : i < length ys = pass-below number (length ys) i l in
         let fits : i + 1 < 2 ^ 64 = omega (arith, l′, is-x .0 .1 .0) in
-        assigns ! (bin ! (load ! (found ! (spot 3) (stop !)) (look ! 1 refl)) (lit ! tt) (scaled-fits i (length ys) 80 l′ (is-x .0 .1 .1))) (found ! (spot 5) (stop !)) (init ! 4 refl (tt, scaled-fits i (length ys) 80 l′ (is-x .0 .1 .1))) $
+        assigns ! (bin ! (load ! (found ! (spot 3) (stop !)) (look ! 1 refl)) (lit ! tt) (scaled-fits i (length ys) recordBytes l′ (is-x .0 .1 .1))) (found ! (spot 5) (stop !)) (init ! 4 refl (tt, scaled-fits i (length ys) recordBytes l′ (is-x .0 .1 .1))) $
         assigns ! (bin ! (load ! (from ! (fld ! refl (stop !))) (look-in ! 8 (sub ! 0 refl (whole !)))) (load ! (found ! (spot 5) (stop !)) (look ! 4 refl)) tt) (found ! (spot 6) (stop !)) (init ! 5 refl (tt, tt)) $
-        rewrite ! 5 (λ (a : ℕ). ‵ (fat fullShare tyPtr m₆ 0 (vptr b a))) (sym (place-is 80 p₀ i)) refl $
+        rewrite ! 5 (λ (a : ℕ). ‵ (fat fullShare tyPtr m₆ 0 (vptr b a))) (sym (place-is recordBytes p₀ i)) refl $
         elem-out ! (device .row) (Is (device .row)) (shows 𝓤 H A (device .row)) (λ d. device .val d ∷ []) (device .tells) q′ ys i powerUp b p₀ l′ (λ is-e.
         assigns ! (of-opd ! (load ! (found ! (spot 6) (hop ! (look ! 7 refl) (stop !))) (look-raw ! 0 refl))) (found ! (spot 7) (stop !)) (init ! 8 refl (device .typed 𝓤 H A W e is-e)) $
         elem-back ! (device .row) q′ ys i powerUp (device .val e ∷ []) b p₀ l′ $

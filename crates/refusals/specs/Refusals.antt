@@ -1,4 +1,4 @@
--- Believed: document 01, "Numbers a call may give": 1 to 7, in the table's order, and document 02's 12 and 13. Each is its number where the row applies, else 0.
+-- Believed: document 01, "Numbers a call may give": 1 to 7, in the table's order, and document 02's 10 to 13. Each is its number where the row applies, else 0.
 -- Assumes nothing.
 use Prim.Native.Nat.{ℕ, _+_, _*_, _/_}
 use mathlib.Core.Bool.{Bool, _&&_}
@@ -54,6 +54,14 @@ planeRefusal p0 p1 first last = if (eqb (length p0) 16 && eqb (length p1) 16 && 
 -- 7: some record of the chain isn't sound
 abbrev pub soundRefusal : Bool → ℕ
 soundRefusal sound = if sound 0 7
+
+-- 10: two parts with one address (document 02, request 3)
+abbrev pub clashRefusal : Bool → ℕ
+clashRefusal distinct = if distinct 0 10
+
+-- 11: an address above 127 (document 02, request 3)
+abbrev pub addressRefusal : Bool → ℕ
+addressRefusal seven = if seven 0 11
 
 -- 12: the wanted contents aren't 32 bytes for each of n drivers (document 02, request 6)
 abbrev pub wantedRefusal : ℕ → ℕ → ℕ

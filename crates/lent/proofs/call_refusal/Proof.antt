@@ -28,7 +28,7 @@ use Rattle.pass.proofs.Widths.new.Met as none-thm
 use Rattle.pass.proofs.Widths.with as also
 use Rattle.pass.proofs.Widths.with.Symbol as also-def
 use Rattle.pass.proofs.Widths.with.Met as also-thm
-use Rattle.lent.proofs.Records.{size, byte, device, widths, bytes-of}
+use Rattle.lent.proofs.Records.{size, byte, device, recordBytes, widths, bytes-of}
 use Rattle.lent.proofs.Walk.{Walk, calls-value, leave, leave-room, tests, whiles, proves}
 use Rattle.lent.proofs.call_refusal.Key as key
 use Rattle.lent.proofs.call_refusal as call-refusal
@@ -103,9 +103,9 @@ module _ {M : Type 1} (𝓤 : URA M) (H : Heap 𝓤) (A : Atoms 𝓤) (W : Given
       let l′ : i < n = pass-below early n i l in
       let fits : i + 1 < 2 ^ 64 = omega (arith, l′, room .0) in
       let step : widthsWith (at i) e ≡ at (i + 1) = widths-more ys i l′ in
-      assigns ! (bin ! (load ! (from ! (stop !)) (look ! 1 refl)) (lit ! tt) (scaled-fits i n 80 l′ (room .1))) (from ! (stop !)) (init ! 4 refl (tt, scaled-fits i n 80 l′ (room .1))) $
+      assigns ! (bin ! (load ! (from ! (stop !)) (look ! 1 refl)) (lit ! tt) (scaled-fits i n recordBytes l′ (room .1))) (from ! (stop !)) (init ! 4 refl (tt, scaled-fits i n recordBytes l′ (room .1))) $
       assigns ! (bin ! (load ! (from ! (fld ! refl (stop !))) (look-in ! 8 (sub ! 0 refl (whole !)))) (load ! (from ! (stop !)) (look ! 4 refl)) tt) (from ! (stop !)) (init ! 5 refl (tt, tt)) $
-      rewrite ! 5 (λ (a : ℕ). ‵ (fat fullShare tyPtr m₁ 0 (vptr b a))) (sym (place-is 80 o i)) refl $
+      rewrite ! 5 (λ (a : ℕ). ‵ (fat fullShare tyPtr m₁ 0 (vptr b a))) (sym (place-is recordBytes o i)) refl $
       elem-out ! R (Is R) (shows 𝓤 H A R) (λ d. device .val d ∷ []) (device .tells) q′ ys i powerUp b o l′ (λ is-e.
       assigns ! (of-opd ! (load ! (from ! (hop ! (look ! 7 refl) (stop !))) (look-raw ! 0 refl))) (from ! (stop !)) (init ! 8 refl (device .typed 𝓤 H A W e is-e)) $
       elem-back ! R q′ ys i powerUp (device .val e ∷ []) b o l′ $

@@ -38,7 +38,7 @@ use Rattle.pass.proofs.StepLaws.{taken-start, taken-more, length-taken}
 use Rattle.pass.proofs.in_room as room′
 use Rattle.pass.proofs.in_room.Symbol as room-def
 use Rattle.pass.proofs.in_room.Met as room-thm
-use Rattle.lent.proofs.Records.{size, byte, half, half-sized, device, device-sized, planes-of, is-stored, Cell, at-p0, at-p1, at-shift, at-mark, in-p0, in-p1, in-shift, in-mark}
+use Rattle.lent.proofs.Records.{size, byte, half, half-sized, device, recordBytes, device-sized, planes-of, is-stored, Cell, at-p0, at-p1, at-shift, at-mark, in-p0, in-p1, in-shift, in-mark}
 use Rattle.lent.proofs.Parts.{part, rest}
 use Rattle.lent.proofs.Locals.{span, values, envOf, held, starts, leaves, var, sets, resets, lands-in, lands-over, start, count}
 use Rattle.lent.proofs.Elements.{points, takes-out, puts-in, copies}
@@ -112,29 +112,29 @@ module _ {M : Type 1} (𝓤 : URA M) (H : Heap 𝓤) (A : Atoms 𝓤) (W : Given
     Way = At-turn i (some (half .val v)) (some u₁ ∷ some u₂ ∷ some u₃ ∷ some u₄ ∷ some u₅ ∷ []) ++ Θ
 
     -- what is stored where the word's address is 0x20 or above, in a record whose planes are x0 and x1
-    stores : Known 𝓤 H A mem run 𝓣 → {c f e g w h t s m : Val} {j₁ j₂ : Item 𝓤} (x0 x1 : List ℕ) → length x0 ≡ 16 → length x1 ≡ 16 → getD x0 (digitOf v) 0 < 2 ^ 8 → getD x1 (digitOf v) 0 < 2 ^ 8
+    stores : Known 𝓤 H A mem run 𝓣 → {c f e g w h t a s m : Val} {j₁ j₂ : Item 𝓤} (x0 x1 : List ℕ) → length x0 ≡ 16 → length x1 ≡ 16 → getD x0 (digitOf v) 0 < 2 ^ 8 → getD x1 (digitOf v) 0 < 2 ^ 8
         → (newP0 v (getD x0 (digitOf v) 0) < 2 ^ 8 → newP1 v (getD x1 (digitOf v) 0) < 2 ^ 8 → newShift v (getD x0 (digitOf v) 0) (getD x1 (digitOf v) 0) < 2 ^ 16 → newMark v < 2 ^ 8
-        → Sq W (Cell 𝓤 fullShare b (lies 80 o i) c f e g w h t (bytes (set x0 (digitOf v) (newP0 v (getD x0 (digitOf v) 0)))) (bytes (set x1 (digitOf v) (newP1 v (getD x1 (digitOf v) 0)))) (half .val (newShift v (getD x0 (digitOf v) 0) (getD x1 (digitOf v) 0))) (byte .val (newMark v)) ∷ j₁ ∷ j₂ ∷ Way) (prop (post 𝓤 H p next)))
-        → Sq W (Cell 𝓤 fullShare b (lies 80 o i) c f e g w h t (bytes x0) (bytes x1) s m ∷ j₁ ∷ j₂ ∷ Way) (runs (𝓣 .C) (𝓣 .Λ) (envOf ls l) (part (part (rest (rest (rest (rest (rest (rest (rest turn))))))))) p)
+        → Sq W (Cell 𝓤 fullShare b (lies recordBytes o i) c f e g w h t a (bytes (set x0 (digitOf v) (newP0 v (getD x0 (digitOf v) 0)))) (bytes (set x1 (digitOf v) (newP1 v (getD x1 (digitOf v) 0)))) (half .val (newShift v (getD x0 (digitOf v) 0) (getD x1 (digitOf v) 0))) (byte .val (newMark v)) ∷ j₁ ∷ j₂ ∷ Way) (prop (post 𝓤 H p next)))
+        → Sq W (Cell 𝓤 fullShare b (lies recordBytes o i) c f e g w h t a (bytes x0) (bytes x1) s m ∷ j₁ ∷ j₂ ∷ Way) (runs (𝓣 .C) (𝓣 .Λ) (envOf ls l) (part (part (rest (rest (rest (rest (rest (rest (rest turn))))))))) p)
     stores known x0 x1 long0 long1 is-p0 is-p1 k =
         let at< : digitOf v < 16 = omega arith in
         -- [the record; what it owns; the others; the words; _0; _1; ..]
         calls-value ! (fmOf 𝓤 H (W .laws) 𝓣) (half ∷ []) size (λ _. emp 𝓤) (λ a. digitOf (a .0)) (known .at) (v, tt) (is-v, tt) (id⊢ 𝓤 _) (and-then ! (var ! 10 refl refl) (no-more !)) (λ is-at wt-at. lands-in ! 10 refl refl wt-at $
-        points ! 80 tt i (length ys) b o below (room .1) (var ! 8 refl refl) (from ! (stop !)) (λ wt. init ! 20 refl wt) (start ! 5 refl refl) (var ! 20 refl refl) (from ! (stop !)) (init ! 21 refl (tt, tt)) $ sets ! (addr ! (from ! (hop ! (look ! 21 refl) (at-p0 !)))) 22 refl refl (tt, tt) $ sets ! (bin ! (var ! 22 refl refl) (var ! 10 refl refl) tt) 23 refl refl (tt, tt) $
+        points ! recordBytes tt i (length ys) b o below (room .1) (var ! 8 refl refl) (from ! (stop !)) (λ wt. init ! 20 refl wt) (start ! 5 refl refl) (var ! 20 refl refl) (from ! (stop !)) (init ! 21 refl (tt, tt)) $ sets ! (addr ! (from ! (hop ! (look ! 21 refl) (at-p0 !)))) 22 refl refl (tt, tt) $ sets ! (bin ! (var ! 22 refl refl) (var ! 10 refl refl) tt) 23 refl refl (tt, tt) $
         sets ! (of-opd ! (load ! (from ! (hop ! (look ! 23 refl) (stop !))) (look-byte ! 0 x0 (digitOf v) long0 at< (in-p0 !)))) 24 refl refl (tt, record { fits = is-p0 }) $ sets ! (of-opd ! (var ! 24 refl refl)) 11 refl refl (tt, record { fits = is-p0 }) $
-        points ! 80 tt i (length ys) b o below (room .1) (var ! 8 refl refl) (from ! (stop !)) (λ wt. store ! 20 refl wt) (start ! 5 refl refl) (var ! 20 refl refl) (from ! (stop !)) (init ! 25 refl (tt, tt)) $ sets ! (addr ! (from ! (hop ! (look ! 25 refl) (at-p1 !)))) 26 refl refl (tt, tt) $ sets ! (bin ! (var ! 26 refl refl) (var ! 10 refl refl) tt) 27 refl refl (tt, tt) $
+        points ! recordBytes tt i (length ys) b o below (room .1) (var ! 8 refl refl) (from ! (stop !)) (λ wt. store ! 20 refl wt) (start ! 5 refl refl) (var ! 20 refl refl) (from ! (stop !)) (init ! 25 refl (tt, tt)) $ sets ! (addr ! (from ! (hop ! (look ! 25 refl) (at-p1 !)))) 26 refl refl (tt, tt) $ sets ! (bin ! (var ! 26 refl refl) (var ! 10 refl refl) tt) 27 refl refl (tt, tt) $
         resets ! (of-opd ! (load ! (from ! (hop ! (look ! 27 refl) (stop !))) (look-byte ! 0 x1 (digitOf v) long1 at< (in-p1 !)))) 24 refl refl (tt, record { fits = is-p1 }) $ sets ! (of-opd ! (var ! 24 refl refl)) 12 refl refl (tt, record { fits = is-p1 }) $
         calls-value ! (fmOf 𝓤 H (W .laws) 𝓣) (half ∷ byte ∷ []) byte (λ _. emp 𝓤) (λ a. newP0 (a .0) (a .1 .0)) (known .p0) (v, (getD x0 (digitOf v) 0, tt)) (is-v, ((refl, is-p0), tt)) (id⊢ 𝓤 _) (and-then ! (var ! 10 refl refl) (and-then ! (var ! 12 refl refl) (no-more !))) (λ is-n0 wt-n0. lands-over ! 24 refl refl wt-n0 $
-        points ! 80 tt i (length ys) b o below (room .1) (var ! 8 refl refl) (from ! (stop !)) (λ wt. store ! 20 refl wt) (start ! 5 refl refl) (var ! 20 refl refl) (from ! (stop !)) (init ! 28 refl (tt, tt)) $ sets ! (addr ! (from ! (hop ! (look ! 28 refl) (at-p0 !)))) 29 refl refl (tt, tt) $ sets ! (bin ! (var ! 29 refl refl) (var ! 10 refl refl) tt) 30 refl refl (tt, tt) $
+        points ! recordBytes tt i (length ys) b o below (room .1) (var ! 8 refl refl) (from ! (stop !)) (λ wt. store ! 20 refl wt) (start ! 5 refl refl) (var ! 20 refl refl) (from ! (stop !)) (init ! 28 refl (tt, tt)) $ sets ! (addr ! (from ! (hop ! (look ! 28 refl) (at-p0 !)))) 29 refl refl (tt, tt) $ sets ! (bin ! (var ! 29 refl refl) (var ! 10 refl refl) tt) 30 refl refl (tt, tt) $
         assigns ! (of-opd ! (var ! 24 refl refl)) (from ! (hop ! (look ! 30 refl) (stop !))) (store-byte ! 0 x0 (digitOf v) (newP0 v (getD x0 (digitOf v) 0)) long0 at< (is-n0 .1) (in-p0 !)) $
         calls-value ! (fmOf 𝓤 H (W .laws) 𝓣) (half ∷ byte ∷ []) byte (λ _. emp 𝓤) (λ a. newP1 (a .0) (a .1 .0)) (known .p1) (v, (getD x1 (digitOf v) 0, tt)) (is-v, ((refl, is-p1), tt)) (id⊢ 𝓤 _) (and-then ! (var ! 10 refl refl) (and-then ! (var ! 13 refl refl) (no-more !))) (λ is-n1 wt-n1. lands-over ! 24 refl refl wt-n1 $
-        points ! 80 tt i (length ys) b o below (room .1) (var ! 8 refl refl) (from ! (stop !)) (λ wt. store ! 20 refl wt) (start ! 5 refl refl) (var ! 20 refl refl) (from ! (stop !)) (init ! 31 refl (tt, tt)) $ sets ! (addr ! (from ! (hop ! (look ! 31 refl) (at-p1 !)))) 32 refl refl (tt, tt) $ sets ! (bin ! (var ! 32 refl refl) (var ! 10 refl refl) tt) 33 refl refl (tt, tt) $
+        points ! recordBytes tt i (length ys) b o below (room .1) (var ! 8 refl refl) (from ! (stop !)) (λ wt. store ! 20 refl wt) (start ! 5 refl refl) (var ! 20 refl refl) (from ! (stop !)) (init ! 31 refl (tt, tt)) $ sets ! (addr ! (from ! (hop ! (look ! 31 refl) (at-p1 !)))) 32 refl refl (tt, tt) $ sets ! (bin ! (var ! 32 refl refl) (var ! 10 refl refl) tt) 33 refl refl (tt, tt) $
         assigns ! (of-opd ! (var ! 24 refl refl)) (from ! (hop ! (look ! 33 refl) (stop !))) (store-byte ! 0 x1 (digitOf v) (newP1 v (getD x1 (digitOf v) 0)) long1 at< (is-n1 .1) (in-p1 !)) $
         calls-value ! (fmOf 𝓤 H (W .laws) 𝓣) (half ∷ byte ∷ byte ∷ []) half (λ _. emp 𝓤) (λ a. newShift (a .0) (a .1 .0) (a .1 .1 .0)) (known .shift) (v, (getD x0 (digitOf v) 0, (getD x1 (digitOf v) 0, tt))) (is-v, ((refl, is-p0), ((refl, is-p1), tt))) (id⊢ 𝓤 _)
         (and-then ! (var ! 10 refl refl) (and-then ! (var ! 12 refl refl) (and-then ! (var ! 13 refl refl) (no-more !)))) (λ is-s wt-s. lands-in ! 34 refl refl wt-s $
-        points ! 80 tt i (length ys) b o below (room .1) (var ! 8 refl refl) (from ! (stop !)) (λ wt. store ! 20 refl wt) (start ! 5 refl refl) (var ! 20 refl refl) (from ! (stop !)) (init ! 35 refl (tt, tt)) $ assigns ! (of-opd ! (var ! 34 refl refl)) (from ! (hop ! (look ! 35 refl) (at-shift !))) (store-in ! 0 (in-shift !) wt-s) $
+        points ! recordBytes tt i (length ys) b o below (room .1) (var ! 8 refl refl) (from ! (stop !)) (λ wt. store ! 20 refl wt) (start ! 5 refl refl) (var ! 20 refl refl) (from ! (stop !)) (init ! 35 refl (tt, tt)) $ assigns ! (of-opd ! (var ! 34 refl refl)) (from ! (hop ! (look ! 35 refl) (at-shift !))) (store-in ! 0 (in-shift !) wt-s) $
         calls-value ! (fmOf 𝓤 H (W .laws) 𝓣) (half ∷ []) byte (λ _. emp 𝓤) (λ a. newMark (a .0)) (known .mark) (v, tt) (is-v, tt) (id⊢ 𝓤 _) (and-then ! (var ! 10 refl refl) (no-more !)) (λ is-m wt-m. lands-over ! 24 refl refl wt-m $
-        points ! 80 tt i (length ys) b o below (room .1) (var ! 8 refl refl) (from ! (stop !)) (λ wt. store ! 20 refl wt) (start ! 5 refl refl) (var ! 20 refl refl) (from ! (stop !)) (init ! 36 refl (tt, tt)) $ assigns-last ! (of-opd ! (var ! 24 refl refl)) (from ! (hop ! (look ! 36 refl) (at-mark !))) (store-in ! 0 (in-mark !) wt-m) $
+        points ! recordBytes tt i (length ys) b o below (room .1) (var ! 8 refl refl) (from ! (stop !)) (λ wt. store ! 20 refl wt) (start ! 5 refl refl) (var ! 20 refl refl) (from ! (stop !)) (init ! 36 refl (tt, tt)) $ assigns-last ! (of-opd ! (var ! 24 refl refl)) (from ! (hop ! (look ! 36 refl) (at-mark !))) (store-in ! 0 (in-mark !) wt-m) $
         forget ! 10 refl $ forget ! 11 refl $ forget ! 12 refl $ forget ! 20 refl $ forget ! 21 refl $ forget ! 22 refl $ forget ! 23 refl $ forget ! 24 refl $ forget ! 25 refl $ forget ! 26 refl $ forget ! 27 refl $ forget ! 28 refl $ forget ! 29 refl $ forget ! 30 refl $ forget ! 31 refl $ forget ! 32 refl $ forget ! 33 refl $ forget ! 34 refl $ forget ! 35 refl $ forget ! 36 refl $ k (is-n0 .1) (is-n1 .1) (is-s .1) (is-m .1))))))
 
     module _ (l′ : i < length (takenTo ys ws i)) (step : set (takenTo ys ws i) i (taken (getD (takenTo ys ws i) i powerUp) v) ≡ takenTo ys ws (i + 1)) (known : Known 𝓤 H A mem run 𝓣) (k : Sq W (‵ (row R fullShare (takenTo ys ws (i + 1)) b o) ∷ Way) (prop (post 𝓤 H p next))) where
@@ -160,7 +160,7 @@ module _ {M : Type 1} (𝓤 : URA M) (H : Heap 𝓤) (A : Atoms 𝓤) (W : Given
           let e : Device = taken d v in
           copies ! device device-sized fullShare (takenTo ys ws i) i (length ys) powerUp b o below (room .1) l′ (var ! 6 refl refl) (from ! (stop !)) (λ wt. init ! 36 refl wt) (start ! 3 refl refl) (var ! 36 refl refl) (from ! (stop !)) (init ! 37 refl (tt, tt)) (from ! (hop ! (look ! 39 refl) (stop !))) (from ! (stop !)) (λ wt. init ! 40 refl wt) (λ is-d.
           calls-value ! (fmOf 𝓤 H (W .laws) 𝓣) (device ∷ half ∷ []) device (λ _. emp 𝓤) (λ a. taken (a .0) (a .1 .0)) (known .work) (d, (v, tt)) (is-d, (is-v, tt)) (id⊢ 𝓤 _) (and-then ! (var ! 39 refl refl) (and-then ! (var ! 8 refl refl) (no-more !))) (λ is-e wt-e. lands-in ! 35 refl refl wt-e $
-          points ! 80 tt i (length ys) b o below (room .1) (var ! 6 refl refl) (from ! (stop !)) (λ wt. init ! 39 refl wt) (start ! 3 refl refl) (var ! 39 refl refl) (from ! (stop !)) (init ! 40 refl (tt, tt)) $
+          points ! recordBytes tt i (length ys) b o below (room .1) (var ! 6 refl refl) (from ! (stop !)) (λ wt. init ! 39 refl wt) (start ! 3 refl refl) (var ! 39 refl refl) (from ! (stop !)) (init ! 40 refl (tt, tt)) $
           takes-out ! device device-sized fullShare (takenTo ys ws i) i powerUp b o l′ (λ _.
           assigns-last ! (of-opd ! (var ! 37 refl refl)) (from ! (hop ! (look ! 42 refl) (stop !))) (store-raw ! 0 refl wt-e) $
           puts-in ! device device-sized fullShare (takenTo ys ws i) i powerUp e b o l′ is-e $

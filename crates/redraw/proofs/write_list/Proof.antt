@@ -37,7 +37,7 @@ use Rattle.planner.proofs.Listed.{length-listed}
 use Rattle.planner.proofs.write_driver as writing
 use Rattle.planner.proofs.write_driver.Symbol as writing-def
 use Rattle.planner.proofs.write_driver.Met as writing-thm
-use Rattle.lent.proofs.Records.{size, byte, half, device}
+use Rattle.lent.proofs.Records.{size, byte, half, device, recordBytes}
 use Rattle.lent.proofs.Walk.{Walk, has-data, calls-value, calls-fn, leave, leave-room, tests, whiles, proves}
 use Rattle.redraw.proofs.write_list.Key as key
 use Rattle.redraw.proofs.write_list as write-list
@@ -131,7 +131,7 @@ module _ {M : Type 1} (𝓤 : URA M) (H : Heap 𝓤) (A : Atoms 𝓤) (W : Given
       (seq (cond (copy (place 9 [])) skip (exit 1))
       (seq (assign (place 11 []) (addrOf (place 4 (field 0 ∷ deref (half .ty) ∷ []))))
       (seq (assign (place 12 []) (aggregate (copy (place 11 []) ∷ copy (place 4 (field 1 ∷ [])) ∷ [])))
-      (seq (assign (place 13 []) (op2 (mul unsigned) (copy (place 8 [])) (int w64 80)))
+      (seq (assign (place 13 []) (op2 (mul unsigned) (copy (place 8 [])) (int w64 recordBytes)))
       (seq (assign (place 14 []) (op2 offset (copy (place 1 (field 0 ∷ []))) (copy (place 13 []))))
       (seq (assign (place 15 []) (rvOpd (copy (place 14 (deref (device .ty) ∷ [])))))
       (seq (call writing-def.name (copy (place 12 []) ∷ copy (place 3 []) ∷ copy (place 6 []) ∷ copy (place 5 []) ∷ copy (place 8 []) ∷ copy (place 15 []) ∷ []) (place 10 []))
@@ -165,9 +165,9 @@ module _ {M : Type 1} (𝓤 : URA M) (H : Heap 𝓤) (A : Atoms 𝓤) (W : Given
         assigns t₀ (addr t₀ (from t₀ (fld t₀ refl (hop t₀ (look-in t₀ 13 (sub t₀ 0 refl (whole t₀))) (stop t₀))))) (from t₀ (stop t₀)) (init t₀ 5 refl (tt, tt)) $
         assigns t₀ (agg t₀ (and-then t₀ (load t₀ (from t₀ (stop t₀)) (look t₀ 5 refl)) (and-then t₀ (load t₀ (from t₀ (fld t₀ refl (stop t₀))) (look-in t₀ 13 (sub t₀ 1 refl (whole t₀)))) (no-more t₀)))) (from t₀ (stop t₀)) (init t₀ 6 refl (tt, (tt, (record { fits = room₂ .0 }, tt)))) $
         rewrite t₀ 6 (λ (j : ℕ). ‵ (fat fullShare (sliceTy (tyRef erased mut (pointee (S .written)))) l12 0 (sliceVal (b₁, o₁) j))) (sym (long i)) refl $
-        assigns t₀ (bin t₀ (load t₀ (from t₀ (stop t₀)) (look t₀ 2 refl)) (lit t₀ tt) (scaled-fits i n 80 l′ (room .1))) (from t₀ (stop t₀)) (init t₀ 7 refl (tt, scaled-fits i n 80 l′ (room .1))) $
+        assigns t₀ (bin t₀ (load t₀ (from t₀ (stop t₀)) (look t₀ 2 refl)) (lit t₀ tt) (scaled-fits i n recordBytes l′ (room .1))) (from t₀ (stop t₀)) (init t₀ 7 refl (tt, scaled-fits i n recordBytes l′ (room .1))) $
         assigns t₀ (bin t₀ (load t₀ (from t₀ (fld t₀ refl (stop t₀))) (look-in t₀ 15 (sub t₀ 0 refl (whole t₀)))) (load t₀ (from t₀ (stop t₀)) (look t₀ 7 refl)) tt) (from t₀ (stop t₀)) (init t₀ 8 refl (tt, tt)) $
-        rewrite t₀ 8 (λ (p : ℕ). ‵ (fat fullShare tyPtr l14 0 (vptr b p))) (sym (place-is 80 o i)) refl $
+        rewrite t₀ 8 (λ (p : ℕ). ‵ (fat fullShare tyPtr l14 0 (vptr b p))) (sym (place-is recordBytes o i)) refl $
         move t₀ (1 ∷ 0 ∷ []) $ elem-out t₀ R (Is R) (shows 𝓤 H A R) (λ d. device .val d ∷ []) (device .tells) q′ ys i powerUp b o l′ (λ is-e.
         assigns t₀ (of-opd t₀ (load t₀ (from t₀ (hop t₀ (look t₀ 10 refl) (stop t₀))) (look-raw t₀ 0 refl))) (from t₀ (stop t₀)) (init t₀ 11 refl (device .typed 𝓤 H A W e is-e)) $
         elem-back t₀ R q′ ys i powerUp (device .val e ∷ []) b o l′ $

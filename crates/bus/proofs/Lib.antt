@@ -1,0 +1,10 @@
+pub mod Straps
+pub mod States
+pub mod Accepted
+pub mod Sound
+pub mod Turns
+pub mod Own
+pub mod Alone
+pub mod Bench
+pub mod Bytes
+pub mod Whole

@@ -1,0 +1,78 @@
+-- Bus states and what they stand for.
+-- Assumes nothing.
+use Prim.Native.Nat.{ℕ, zero, suc, _≤_}
+use native.Mathlib.Omega.{arith}
+use mathlib.Core.Bool.{Bool, true, false}
+use mathlib.Core.List.{List}
+use mathlib.Core.Path.{_≡_, refl}
+use lib.Dec.{eqb, leb, ltb}
+use borrow.Author.Tests.{eqb-false, ne-eqb, leb-true, le-leb}
+use Rattle.ground.specs.Choice.{if}
+use Rattle.ground.proofs.Truth.{and-left}
+use Rattle.bus.specs.declared.Bus.{Bus}
+use Rattle.bus.specs.Straps.{matched}
+use Rattle.bus.specs.States.{Use, command, writing, reading, State, idle, slave, unmatched, transfer, freeAt, useAt, stateOf, phaseOf, busOf, soundBus}
+use Rattle.bus.specs.BusCalls.{BusCall, start, put, get, stop, give, ask}
+use Rattle.bus.specs.BusServed.{opened, next}
+use Rattle.bus.proofs.Straps.{match-le}
+
+-- a transfer is of a part that is there
+abbrev pub Named : ℕ → State → Type 0
+Named n idle = Unit {0}
+Named n slave = Unit {0}
+Named n unmatched = Unit {0}
+Named n (transfer k u) = (1 ≤ k) × (k ≤ n)
+
+free-named : (n : ℕ) (t t′ : Bool) → Named n (if t idle (if t′ slave unmatched))
+free-named n true t′ = tt
+free-named n false true = tt
+free-named n false false = tt
+
+-- what a sound bus state stands for
+pub state-named : (n : ℕ) (b : Bus) → soundBus n b ≡ true → Named n (stateOf b)
+state-named n b e = go (eqb (b .part) 0) refl
+  where
+    go : (t : Bool) → eqb (b .part) 0 ≡ t → Named n (if t (freeAt (b .phase)) (transfer (b .part) (useAt (b .phase))))
+    go true t = free-named n (eqb (b .phase) 0) (eqb (b .phase) 1)
+    go false t =
+        let z : b .part ≡ 0 → ⊥ = eqb-false (b .part) 0 t in
+        (omega arith, leb-true (b .part) n (and-left (leb (b .part) n) (ltb (b .phase) 3) e))
+
+use-phase : (u : Use) → useAt (phaseOf u) ≡ u
+use-phase command = refl
+use-phase writing = refl
+use-phase reading = refl
+
+phase-small : (u : Use) → ltb (phaseOf u) 3 ≡ true
+phase-small command = refl
+phase-small writing = refl
+phase-small reading = refl
+
+-- there and back
+pub state-bus : (n : ℕ) (s : State) → Named n s → stateOf (busOf s) ≡ s
+state-bus n idle h = refl
+state-bus n slave h = refl
+state-bus n unmatched h = refl
+state-bus n (transfer k u) h = rw (ne-eqb k 0 (λ e. omega arith), use-phase u)
+
+pub bus-sound : (n : ℕ) (s : State) → Named n s → soundBus n (busOf s) ≡ true
+bus-sound n idle h = rw (le-leb 0 n (omega arith))
+bus-sound n slave h = rw (le-leb 0 n (omega arith))
+bus-sound n unmatched h = rw (le-leb 0 n (omega arith))
+bus-sound n (transfer k u) h = rw (le-leb k n (h .1), phase-small u)
+
+opened-named : (n m v : ℕ) → m ≤ n → Named n (opened m v)
+opened-named n zero v h = tt
+opened-named n (suc m) v h = (omega arith, h)
+
+-- a served call leaves no transfer of a part that is not there
+pub next-named : (n : ℕ) (σ : List ℕ) (q : BusCall) (s : State) → Named n s → Named n (next n σ q s)
+next-named n σ start s h = tt
+next-named n σ (put v) idle h = tt
+next-named n σ (put v) slave h = opened-named n (matched n σ v) v (match-le n σ v)
+next-named n σ (put v) unmatched h = tt
+next-named n σ (put v) (transfer k u) h = h
+next-named n σ get s h = h
+next-named n σ stop s h = tt
+next-named n σ (give j x) s h = h
+next-named n σ (ask j x) s h = h

@@ -1,0 +1,164 @@
+-- Part i's view of the bus: the tracker follows the bus states, and the lone bus does what the whole bus does in part i's transactions.
+-- Assumes nothing.
+use Prim.Native.Nat.{ℕ, zero, suc, _≤_}
+use native.Mathlib.Omega.{arith}
+use native.Mathlib.Nat.{not-suc-le-zero}
+use mathlib.Core.Bool.{Bool, true, false, true≢false}
+use mathlib.Core.List.{List, _∷_}
+use mathlib.Core.Path.{_≡_, refl, sym, ap, _∙_}
+use lib.Dec.{eqb, leb, ltb}
+use lib.ListN.{length}
+use borrow.Author.Tests.{eqb-true, eq-eqb, ne-eqb}
+use Rattle.ground.specs.Choice.{if}
+use Rattle.ground.proofs.Truth.{and-right}
+use Rattle.bus.specs.declared.Bus.{Bus}
+use Rattle.bus.specs.Straps.{strapOf, matched}
+use Rattle.bus.specs.States.{State, idle, slave, unmatched, transfer, freeAt, useAt, stateOf, soundBus}
+use Rattle.bus.specs.BusCalls.{BusCall, start, put, get, stop, give, ask}
+use Rattle.bus.specs.BusServed.{opened, next}
+use Rattle.bus.specs.BusIsolation.{accepted, Turn, closed, fresh, ours, turnAt, namesPart, turnNext, namedNow, named, names, viewOf}
+use Rattle.bus.proofs.Straps.{match-own, match-alone}
+use Rattle.bus.proofs.Accepted.{Served, put-says}
+
+-- what a state is to part i, and to the lone bus
+abbrev pub turnOf : ℕ → State → Turn
+turnOf i idle = closed
+turnOf i slave = fresh
+turnOf i unmatched = closed
+turnOf i (transfer k u) = if (eqb k i) ours closed
+
+abbrev pub view : ℕ → State → State
+view i idle = idle
+view i slave = slave
+view i unmatched = unmatched
+view i (transfer k u) = if (eqb k i) (transfer 1 u) idle
+
+-- a bus state's turn and view are those of what it stands for
+turn-free : (i p : ℕ) → if (eqb p 1) fresh closed ≡ turnOf i (freeAt p)
+turn-free i p = go (eqb p 0) refl (eqb p 1)
+  where
+    go : (t : Bool) → eqb p 0 ≡ t → (t′ : Bool) → if (eqb p 1) fresh closed ≡ turnOf i (if t idle (if (eqb p 1) slave unmatched))
+    go true e t′ = let z : p ≡ 0 = eqb-true p 0 e in rw z
+    go false e t′ = last (eqb p 1)
+      where
+        last : (t : Bool) → if t fresh closed ≡ turnOf i (if t slave unmatched)
+        last true = refl
+        last false = refl
+
+pub turn-state : (i : ℕ) (b : Bus) → turnAt i b ≡ turnOf i (stateOf b)
+turn-state i b = go (eqb (b .part) 0)
+  where
+    go : (t : Bool) → if t (if (eqb (b .phase) 1) fresh closed) (if (eqb (b .part) i) ours closed) ≡ turnOf i (if t (freeAt (b .phase)) (transfer (b .part) (useAt (b .phase))))
+    go true = turn-free i (b .phase)
+    go false = refl
+
+view-free : (i : ℕ) (t t′ : Bool) → if t idle (if t′ slave unmatched) ≡ view i (if t idle (if t′ slave unmatched))
+view-free i true t′ = refl
+view-free i false true = refl
+view-free i false false = refl
+
+pub view-state : (i : ℕ) (b : Bus) → stateOf (viewOf i b) ≡ view i (stateOf b)
+view-state i b = go (eqb (b .part) 0) refl
+  where
+    inner : (t : Bool) → stateOf (if t (record { part = 1; phase = b .phase }) (record { part = 0; phase = 0 })) ≡ if t (transfer 1 (useAt (b .phase))) idle
+    inner true = refl
+    inner false = refl
+
+    go : (t : Bool) → eqb (b .part) 0 ≡ t
+        → stateOf (if t b (if (eqb (b .part) i) (record { part = 1; phase = b .phase }) (record { part = 0; phase = 0 })))
+        ≡ view i (if t (freeAt (b .phase)) (transfer (b .part) (useAt (b .phase))))
+    go true e = rw e (view-free i (eqb (b .phase) 0) (eqb (b .phase) 1))
+    go false e = inner (eqb (b .part) i)
+
+-- the lone bus's state is sound
+pub view-sound : (n i : ℕ) (b : Bus) → soundBus n b ≡ true → soundBus 1 (viewOf i b) ≡ true
+view-sound n i b e = go (eqb (b .part) 0) refl
+  where
+    small : ltb (b .phase) 3 ≡ true
+    small = and-right (leb (b .part) n) (ltb (b .phase) 3) e
+
+    inner : (t : Bool) → soundBus 1 (if t (record { part = 1; phase = b .phase }) (record { part = 0; phase = 0 })) ≡ true
+    inner true = small
+    inner false = refl
+
+    go : (t : Bool) → eqb (b .part) 0 ≡ t
+        → soundBus 1 (if t b (if (eqb (b .part) i) (record { part = 1; phase = b .phase }) (record { part = 0; phase = 0 }))) ≡ true
+    go true t = rw (eqb-true (b .part) 0 t, small)
+    go false t = inner (eqb (b .part) i)
+
+-- a transaction that is part i's is named by it
+pub ours-says : (n : ℕ) (σ : List ℕ) (k i : ℕ) (qs : List BusCall) → names n σ i (if (eqb k i) ours closed) qs ≡ true → k ≡ i
+ours-says n σ k i qs = go (eqb k i) refl
+  where
+    go : (t : Bool) → eqb k i ≡ t → names n σ i (if t ours closed) qs ≡ true → k ≡ i
+    go true t e = eqb-true k i t
+    go false t e = absurd (true≢false (sym e))
+
+-- a slave byte, to part i and to the lone bus
+opened-turn : (i m v : ℕ) → 1 ≤ i → turnOf i (opened m v) ≡ if (eqb m i) ours closed
+opened-turn i zero v h = rw (ne-eqb 0 i (λ e. omega arith))
+opened-turn i (suc m) v h = refl
+
+opened-view : (i v : ℕ) → 1 ≤ i → opened 1 v ≡ view i (opened i v)
+opened-view zero v h = absurd (not-suc-le-zero h)
+opened-view (suc k) v h = rw (eq-eqb (suc k) (suc k) refl)
+
+module _ (n i : ℕ) (σ rest : List ℕ) (sixteen : length σ ≡ 16) (h : 1 ≤ i) (g : i ≤ n) where
+  -- a slave byte that is part i's is matched by part i, and on the lone bus
+  pub own-match : Served n σ → (v : ℕ) → namesPart σ i v ≡ true → (matched n σ v ≡ i) × (matched 1 (strapOf σ i ∷ rest) v ≡ 1)
+  own-match z v e =
+      (eqb-true _ i (match-own n σ v i (z .apart) h g (omega (arith, z .few)) ∙ e), match-alone (strapOf σ i) v rest ∙ rw e)
+
+  -- the tracker follows the table
+  pub turn-follows : (q : BusCall) (s : State) → accepted n σ q ≡ true → turnOf i (next n σ q s) ≡ turnNext σ i q (turnOf i s)
+  turn-follows start s a = refl
+  turn-follows (put v) idle a = refl
+  turn-follows (put v) slave a =
+      let z = put-says n σ v a in
+      opened-turn i (matched n σ v) v h
+      ∙ ap (λ (t : Bool). if t ours closed) (match-own n σ v i (z .apart) h g (omega (arith, z .few)))
+  turn-follows (put v) unmatched a = refl
+  turn-follows (put v) (transfer k u) a = go (eqb k i)
+    where
+      go : (t : Bool) → if t ours closed ≡ turnNext σ i (put v) (if t ours closed)
+      go true = refl
+      go false = refl
+  turn-follows get s a = refl
+  turn-follows stop s a = refl
+  turn-follows (give j x) s a = refl
+  turn-follows (ask j x) s a = refl
+
+  -- a refused call, and an accepted one that no transaction turns on, are skipped
+  pub names-skip : (t : Turn) (q : BusCall) (qs : List BusCall) → accepted n σ q ≡ false → names n σ i t qs ≡ names n σ i t (q ∷ qs)
+  unfolding named
+  names-skip closed q qs a = refl
+  names-skip fresh q qs a = rw a
+  names-skip ours q qs a = refl
+
+  pub names-through : (t : Turn) (q : BusCall) (qs : List BusCall) → accepted n σ q ≡ true → ((later : Bool) → later ≡ namedNow σ i q later)
+      → names n σ i t qs ≡ names n σ i t (q ∷ qs)
+  unfolding named
+  names-through closed q qs a f = refl
+  names-through fresh q qs a f = rw a (f (named n σ i qs))
+  names-through ours q qs a f = refl
+
+  -- a byte given, served: whose the transaction is stays, and the lone bus goes on as the whole bus
+  pub put-names : (t : Turn) (v : ℕ) (qs : List BusCall) → accepted n σ (put v) ≡ true → names n σ i (turnNext σ i (put v) t) qs ≡ names n σ i t (put v ∷ qs)
+  unfolding named
+  put-names closed v qs a = refl
+  put-names fresh v qs a = rw a (go (namesPart σ i v))
+    where
+      go : (t : Bool) → names n σ i (if t ours closed) qs ≡ t
+      go true = refl
+      go false = refl
+  put-names ours v qs a = refl
+
+  pub put-view : (v : ℕ) (s : State) (qs : List BusCall) → accepted n σ (put v) ≡ true → names n σ i (turnOf i s) (put v ∷ qs) ≡ true
+      → next 1 (strapOf σ i ∷ rest) (put v) (view i s) ≡ view i (next n σ (put v) s)
+  unfolding named
+  put-view v idle qs a e = absurd (true≢false (sym e))
+  put-view v slave qs a e =
+      let m = own-match (put-says n σ v a) v (rw a at e) in
+      rw (m .0, m .1) (opened-view i v h)
+  put-view v unmatched qs a e = absurd (true≢false (sym e))
+  put-view v (transfer k u) qs a e = let p : k ≡ i = ours-says n σ k i (put v ∷ qs) e in rw (p, eq-eqb i i refl)

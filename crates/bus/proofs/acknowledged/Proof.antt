@@ -1,0 +1,7 @@
+-- `bus::acknowledged` meets its contract. Assumes nothing.
+use Rattle.bus.proofs.Bytes.{acknowledged}
+use Rattle.bus.proofs.acknowledged.Statement.{statement}
+use Rattle.bus.proofs.acknowledged.Tie as tie
+
+pub acknowledged-spec : {M : Type 1} → statement M
+acknowledged-spec = tie.close (tie.spec (λ c. acknowledged))

@@ -1,0 +1,12 @@
+pub mod Straps
+pub mod States
+pub mod BusCalls
+pub mod BusRefusals
+pub mod BusServed
+pub mod BusOutcome
+pub mod BusLists
+pub mod BusSoundness
+pub mod Acknowledged
+pub mod Transactions
+pub mod BusIsolation
+pub mod BusExamples

@@ -1,0 +1,105 @@
+-- The shape of a start and a stop on the two-wire bus:
+--     let n = parts.len(); let early = call_refusal(parts, 1, 0);
+--     answer(early, n, bus, straps)
+--     moves           its MIR.        ended, clauses      its contract.        walk     the MIR meets it
+--     moves-spec      so a function whose MIR is that meets that contract
+-- Assumes nothing.
+use mir.Syntax.{Name, Fn, local, valueLocal, tyRef, imm, place, field, seq, assign, call, return, copy, int, rvOpd}
+use prog.Model.{Model}
+use prog.Routine as routine
+use prog.Wp.{Closed}
+use contract.Running.{Running, GhostRules}
+use types.Kit.{use0}
+use denote.Memory.{pointee}
+use denote.Ref.{now}
+use denote.Slice.{sliceTy}
+use denote.Signature.{shrSliceOf, typesAt}
+use denote.Triple.Clauses.{Ended, Clauses, closing}
+use denote.Triple.End.{all}
+use denote.Triple.Walked.{stay-dropped, goes-dropped}
+use Rattle.lent.proofs.Logic.{_≡_, refl, ℕ, List, [], _∷_, lit<, length, URA, named, w8, w64, SProp, emp, id⊢, via, fst∗, Lft, Share, ftrue, flft, Memory, Routine, Heap, Tables, Atoms, Fun, fact, givenOf, tables, tablesOf, Given, ‵, _⊛_, _$_, _∵_, !, qed, move, drop, split, join, fsplit, fjoin, suffices, frame, done, whole, sub, look-in, look, init, stop, fld, from, load, lit, of-opd, and-then, no-more, assigns, land, returns, enter, alloc1, alloc0, params1, pass1, pass0, free0, fmOf, owns, Is, RefT, ShrSlice, slice-vals, shr-slice-tells, plain, nothing, owned, Bound, tripleOf, Contract, Triple, says, Stays, ends-at, yes}
+use Rattle.device.specs.declared.Device.{Device}
+use Rattle.bus.specs.declared.Bus.{Bus}
+use Rattle.bus.specs.BusCalls.{BusCall}
+use Rattle.bus.specs.BusOutcome.{busOutcome}
+use Rattle.pass.specs.Found.{callRefusal}
+use Rattle.transfers.specs.Transfers.{refusalFrom, moved}
+use Rattle.transfers.specs.declared.BusAnswer.{BusAnswer}
+use Rattle.transfers.specs.declared.Straps.{Straps}
+use Rattle.transfers.proofs.BusLaws.{movedTo, foundFrom}
+use Rattle.lent.proofs.Records.{size, byte, device}
+use Rattle.lent.proofs.Walk.{Walk, calls-value, value-fn, value-says, leave, proves}
+use Rattle.lent.proofs.Params.{Kind, held, outers, spelled, told, machine, Good, stays, goes, ends, fits, Had, has}
+use Rattle.lent.proofs.call_refusal.Symbol as number-def
+use Rattle.chain.proofs.Answers.{busState, strapsGiven, busAnswer}
+use Rattle.chain.proofs.Steps.{CallRefusal, numbers}
+
+-- the parameters after the parts
+abbrev others : List (Kind 0)
+others = held busState ∷ held strapsGiven ∷ []
+
+module _ (answer : Name) (left : Bus) (q : BusCall) (law : (ds : List Device) (β : Bus) (σ : List ℕ) → busOutcome σ q β ds ≡ movedTo (moved (foundFrom ds β σ) β left) ds) where
+  abbrev pub moves : Fn
+  moves = record {
+    lifetimes = 1;
+    outlives = [];
+    params = 3;
+    locals = local (busAnswer .ty) valueLocal ∷ local (sliceTy (tyRef (named 0) imm (pointee (device .row .written)))) valueLocal ∷ local (busState .ty) valueLocal ∷ local (strapsGiven .ty) valueLocal ∷ local (size .ty) valueLocal ∷ local (byte .ty) valueLocal ∷ [];
+    body = seq (assign (place 4 []) (rvOpd (copy (place 1 (field 1 ∷ [])))))
+        (seq (call number-def.name (copy (place 1 []) ∷ int w64 1 ∷ int w8 0 ∷ []) (place 5 []))
+        (seq (call answer (copy (place 5 []) ∷ copy (place 4 []) ∷ copy (place 2 []) ∷ copy (place 3 []) ∷ []) (place 0 [])) return));
+  }
+
+  abbrev pub ended : Ended
+  ended = record { signature = record { lifetimes = 1; outlives = []; params = shrSliceOf (0 ∷ []) tt (plain (λ _. device .row)) ∷ outers others; result = plain (λ _. busAnswer .row) }; kept = (yes, all yes (outers others)) }
+
+  abbrev pub clauses : {M : Type 1} (𝓤 : URA M) → Clauses 𝓤 ended
+  clauses 𝓤 κs a = record {
+    ghost = Unit {0};
+    requires = λ _. emp 𝓤;
+    ensures = λ _ r e. fact 𝓤 (busOutcome (a .1 .1 .0 .addresses) q (a .1 .0) (now (a .0)) ≡ record { number = r .number; bus = r .bus; records = now (a .0); back = [] });
+  }
+
+  abbrev stayed : Stays (ended .signature .params) (ended .kept)
+  stayed = (stay-dropped (shrSliceOf (0 ∷ []) tt (plain (λ _. device .row))) yes, stays others)
+
+  abbrev pub Answer : {M : Type 1} (𝓤 : URA M) (H : Heap 𝓤) (A : Atoms 𝓤) → Contract 𝓤
+  Answer 𝓤 H A = tripleOf 𝓤 H A (value-fn (byte ∷ size ∷ busState ∷ strapsGiven ∷ []) busAnswer .signature) (closing 𝓤 H A (value-fn (byte ∷ size ∷ busState ∷ strapsGiven ∷ []) busAnswer) (value-says 𝓤 (byte ∷ size ∷ busState ∷ strapsGiven ∷ []) busAnswer (λ _. emp 𝓤) (λ a. moved (refusalFrom (a .0) (a .1 .0) (a .1 .1 .0) (a .1 .1 .1 .0 .addresses)) (a .1 .1 .0) left)))
+
+  module _ {M : Type 1} (𝓤 : URA M) (H : Heap 𝓤) (A : Atoms 𝓤) (W : Given 𝓤 H A) (mem : Memory → SProp 𝓤) (run : Routine → Fun 𝓤) (κ : Lft) (share : Share) (x : RefT (List Device)) (β : Bus) (σ : Straps) where
+    abbrev y : Bound 𝓤 H A (ended .signature)
+    y = ((κ, tt), (share, tt), tt, (x, (β, (σ, tt))), (slice-vals x, machine (κ, tt) others (β, (σ, tt))))
+
+    abbrev ys : List Device
+    ys = x .now
+
+    abbrev early : ℕ
+    early = callRefusal ys 1 0
+
+    abbrev r : BusAnswer
+    r = moved (refusalFrom early (length ys) β (σ .addresses)) β left
+
+    walk : (𝓣 : Tables 𝓤 H) → Triple 𝓤 (𝓣 .C number-def.name) (CallRefusal 𝓤 H A mem run) → Triple 𝓤 (𝓣 .C answer) (Answer 𝓤 H A) → Is (ShrSlice (named 0) κ (device .row)) x (slice-vals x) → Good (κ, tt) others (β, (σ, tt)) → Walk 𝓤 H A ended stayed (clauses 𝓤) 𝓣 moves y tt
+    walk 𝓣 known-number known-answer is-x good =
+        qed W ((‵ (flft κ share) ⊛ ‵ ftrue) ∷ ‵ (owns (typesAt (ended .signature .params) (κ, tt)) (y .3) (y .4)) ∷ []) ∵ enter ! (𝓣 .C) (𝓣 .Λ) moves _ _ $
+        alloc1 ! (λ l₀. alloc1 ! (λ l₁. alloc1 ! (λ l₂. alloc1 ! (λ l₃. alloc1 ! (λ l₄. alloc1 ! (λ l₅. alloc0 ! $ params1 ! $
+        pass1 ! (init ! 8 refl (tt, (tt, (record { fits = is-x .0 .1 .0 }, tt)))) $ pass1 ! (init ! 6 refl (busState .typed 𝓤 H A W β (good .0))) $ pass1 ! (init ! 4 refl (strapsGiven .typed 𝓤 H A W σ (good .1 .0))) $ pass0 ! $
+        -- [_5; …; _4; …; and so on down to _0; …; the token; what the parameters own]
+        assigns ! (of-opd ! (load ! (from ! (fld ! refl (stop !))) (look-in ! 8 (sub ! 1 refl (whole !))))) (from ! (stop !)) (init ! 2 refl (tt, record { fits = is-x .0 .1 .0 })) $
+        move ! (13 ∷ 12 ∷ []) $ fsplit ! $ move ! (1 ∷ []) $ drop ! $ move ! (1 ∷ 0 ∷ []) $
+        numbers ! (fmOf 𝓤 H (W .laws) 𝓣) mem run known-number κ share x 1 0 (refl, lit< tt) (refl, lit< tt) (and-then ! (load ! (from ! (stop !)) (look ! 9 refl)) (and-then ! (lit ! tt) (and-then ! (lit ! tt) (no-more !)))) (λ is-early wt-early. land ! (from ! (stop !)) (init ! 1 refl wt-early) $
+        -- [the token; _5; …; _4; …; ..]
+        calls-value ! (fmOf 𝓤 H (W .laws) 𝓣) (byte ∷ size ∷ busState ∷ strapsGiven ∷ []) busAnswer (λ _. emp 𝓤) (λ a. moved (refusalFrom (a .0) (a .1 .0) (a .1 .1 .0) (a .1 .1 .1 .0 .addresses)) (a .1 .1 .0) left) known-answer (early, (length ys, (β, (σ, tt)))) (is-early, ((refl, is-x .0 .1 .0), (good .0, (good .1 .0, tt)))) (id⊢ 𝓤 _)
+        (and-then ! (load ! (from ! (stop !)) (look ! 2 refl)) (and-then ! (load ! (from ! (stop !)) (look ! 4 refl)) (and-then ! (load ! (from ! (stop !)) (look ! 8 refl)) (and-then ! (load ! (from ! (stop !)) (look ! 6 refl)) (no-more !))))) (λ is-r wt-r. land ! (from ! (stop !)) (init ! 11 refl wt-r) $
+        returns ! (look ! 11 refl) $ leave ! 11 11 refl refl $ leave ! 9 9 refl refl $ leave ! 7 7 refl refl $ leave ! 5 5 refl refl $ leave ! 3 3 refl refl $ leave ! 1 1 refl refl $ free0 ! $
+        suffices ! _ (ends-at 𝓤 H A ended stayed (clauses 𝓤) W (y, tt) (busAnswer .val r) r (tt, ends (κ, tt) others (β, (σ, tt))) (tt, fits (κ, tt) others (β, (σ, tt)))) $ says ! (law ys β (σ .addresses)) $
+        frame ! $ nothing ! $ use0 W (‵ (Had (κ, tt) others (β, (σ, tt)))) (has 𝓤 H A W (κ, tt) others (β, (σ, tt))) $ move ! (1 ∷ 0 ∷ []) $ fjoin ! $ frame ! $ owned ! (busAnswer .row) (Is (busAnswer .row)) (busAnswer .makes 𝓤 H A W) r _ is-r $ done !))))))))
+
+  pub moves-spec : {M : Type 1} (𝓤 : URA M) (H : Heap 𝓤) (𝓜 : Model 𝓤 H) (𝓖 : GhostRules 𝓤 H) (𝓡 : Running 𝓤 H 𝓜) (γ : routine.Env) (name : Name) → Closed 𝓤 H (tables 𝓤 H 𝓜 𝓡 γ .C) (tables 𝓤 H 𝓜 𝓡 γ .Λ) name moves
+      → Triple 𝓤 (𝓡 .run (γ number-def.name)) (CallRefusal 𝓤 H (𝓖 .A) (𝓜 .mem) (𝓡 .run)) → Triple 𝓤 (𝓡 .run (γ answer)) (Answer 𝓤 H (𝓖 .A))
+      → Triple 𝓤 (𝓡 .run (γ name)) (tripleOf 𝓤 H (𝓖 .A) (ended .signature) (closing 𝓤 H (𝓖 .A) ended (clauses 𝓤)))
+  unfolding tablesOf
+  moves-spec 𝓤 H 𝓜 𝓖 𝓡 γ name closed known-number known-answer =
+      proves 𝓤 H 𝓜 𝓖 𝓡 γ ended stayed (clauses 𝓤) (goes-dropped 𝓤 H (𝓖 .A) (givenOf 𝓤 H 𝓜 𝓖) 1 (shrSliceOf (0 ∷ []) tt (plain (λ _. device .row))) yes (λ κs x f. refl), goes 𝓤 H (𝓖 .A) (givenOf 𝓤 H 𝓜 𝓖) others)
+      name moves closed (λ κs. (slice-vals, spelled κs others)) (λ κs. (shr-slice-tells (named 0) (κs .0) (device .row), told κs others))
+      (λ κs qs bounds a g are. via 𝓤 _ (fst∗ 𝓤 _ (emp 𝓤)) (walk 𝓤 H (𝓖 .A) (givenOf 𝓤 H 𝓜 𝓖) (𝓜 .mem) (𝓡 .run) (κs .0) (qs .0) (a .0) (a .1 .0) (a .1 .1 .0) (tablesOf 𝓤 H 𝓜 (tables 𝓤 H 𝓜 𝓡 γ)) known-number known-answer (are .0) (are .1)))

@@ -1,0 +1,20 @@
+-- `chain::max6955_start` has the shape of `Moves.antt`.
+-- Assumes nothing.
+use denote.Triple.Table.{cited}
+use Rattle.bus.specs.States.{slave, busOf}
+use Rattle.bus.specs.BusCalls.{start}
+use Rattle.transfers.proofs.BusLaws.{starts}
+use Rattle.lent.proofs.call_refusal.Symbol as number-def
+use Rattle.lent.proofs.call_refusal.Met as number-thm
+use Rattle.transfers.proofs.start_answer.Symbol as answer-def
+use Rattle.transfers.proofs.start_answer.Met as answer-thm
+use Rattle.chain.proofs.Moves.{moves-spec}
+use Rattle.chain.proofs.max6955_start.Key as key
+use Rattle.chain.proofs.max6955_start.Statement.{statement}
+use Rattle.chain.proofs.max6955_start.Code as code
+
+pub max6955-start-spec : {M : Type 1} → statement M
+unfolding code.routine
+max6955-start-spec 𝓤 H 𝓜 𝓖 𝓡 =
+    moves-spec answer-def.name (busOf slave) start starts 𝓤 H 𝓜 𝓖 𝓡 code.env key.name (code.unfolded 𝓤 H 𝓜 𝓡)
+    (cited 𝓤 H _ 𝓜 𝓡 code.env number-def.name number-def.routine code.calls-lent·call-refusal (number-thm.met 𝓤 H 𝓜 𝓖 𝓡)) (cited 𝓤 H _ 𝓜 𝓡 code.env answer-def.name answer-def.routine code.calls-transfers·start-answer (answer-thm.met 𝓤 H 𝓜 𝓖 𝓡))

@@ -1,0 +1,91 @@
+-- The proof of `specs/BothBuses.antt`'s theorem.
+-- Assumes nothing.
+use Prim.Native.Nat.{ℕ, _+_, _*_, _/_, _%_, _^_, _<_}
+use native.Mathlib.Omega.{arith}
+use mathlib.Core.Bool.{true, false}
+use mathlib.Core.Path.{_≡_, refl, _∙_}
+use borrow.Author.Tests.{eq-eqb, ne-eqb, lt-ltb}
+use Rattle.ground.specs.Choice.{bit}
+use Rattle.words.specs.Addresses.{wordOf}
+use Rattle.words.specs.declared.Word.{Word}
+use Rattle.words.specs.declared.Word.the-variants.{Write, Read}
+use Rattle.device.specs.Record.{withShift}
+use Rattle.device.specs.Taken.{obeyed, taken}
+use Rattle.device.specs.TwoWire.{nextAddress, commanded, received, sentData, sent}
+use Rattle.device.specs.BothBuses.{SameRegisters, Address, BothBuses}
+use Rattle.device.specs.declared.Device.{Device}
+use Rattle.device.proofs.Shift.{shift-word}
+
+module _ (d : Device) (h : d .command < 128) where
+  -- the read word's D15 and address, the write word's D15
+  high : bit 15 (0x8000 + d .command * 256) ≡ true
+  high = eq-eqb ((0x8000 + d .command * 256) / 2 ^ 15 % 2) 1 (omega arith)
+
+  place : (0x8000 + d .command * 256) / 256 % 128 ≡ d .command
+  place = omega arith
+
+  low : (v : ℕ) → v < 256 → bit 15 (d .command * 256 + v) ≡ false
+  low v g = ne-eqb ((d .command * 256 + v) / 2 ^ 15 % 2) 1 (λ e. omega arith)
+
+  write-both : (v : ℕ) → v < 256 → received d v .registers ≡ taken d (d .command * 256 + v) .registers
+  unfolding received taken
+  write-both v g =
+      let a : (d .command * 256 + v) / 256 % 128 ≡ d .command = omega arith in
+      let m : (d .command * 256 + v) % 256 ≡ v = omega arith in
+      rw (low v g, a, m)
+
+  read-both : sent d .registers ≡ taken d (0x8000 + d .command * 256) .registers
+  unfolding sent taken
+  read-both = rw (high, place)
+
+  same-registers : SameRegisters d
+  unfolding commanded sentData
+  same-registers =
+      record {
+        when-written = write-both;
+        when-read = read-both;
+        data-read = shift-word .after-read d (0x8000 + d .command * 256) high ∙ rw place;
+        when-commanded = λ v. refl;
+      }
+
+-- a word leaves the address
+obeyed-address : (d : Device) (w : Word) → obeyed d w .command ≡ d .command
+obeyed-address d (Write r v) = refl
+obeyed-address d (Read r) = refl
+
+word-address : (d : Device) (w : ℕ) → taken d w .command ≡ d .command
+unfolding taken
+word-address d w = obeyed-address (withShift d w) (wordOf w)
+
+-- Table 6 of 001
+pub next-more : (a : ℕ) → a < 127 → nextAddress a ≡ a + 1
+next-more a h = rw (lt-ltb a 127 h)
+
+pub next-last : (a : ℕ) → a ≡ 127 → nextAddress a ≡ 127
+next-last a e = rw e
+
+address-of : (d : Device) → Address d
+unfolding commanded received sent
+address-of d =
+    record {
+      by-command = λ v. refl;
+      by-given = λ v. next-more (d .command);
+      by-asked = next-more (d .command);
+      last-given = λ v. next-last (d .command);
+      last-asked = next-last (d .command);
+      by-word = word-address d;
+      by-scan = λ a b c e. refl;
+      by-pins = λ levels. refl;
+      by-clocks = λ clocks. refl;
+    }
+
+pub both-buses : BothBuses
+unfolding commanded received sent
+both-buses =
+    record {
+      registers = same-registers;
+      kept-commanded = λ d v. record { shift = refl; mark = refl };
+      kept-given = λ d v. record { shift = refl; mark = refl };
+      kept-asked = λ d. record { shift = refl; mark = refl };
+      address = address-of;
+    }

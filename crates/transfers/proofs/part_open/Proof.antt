@@ -1,0 +1,24 @@
+-- `transfers::part_open` meets its contract. Assumes nothing.
+use borrow.Author.Needs.{needs}
+use Rattle.ground.proofs.Tests.{tests}
+use Rattle.transfers.proofs.StrapLaws.{part-none}
+use Rattle.transfers.proofs.part_open.Statement.{statement}
+use Rattle.transfers.proofs.part_open.Tie as tie
+
+returns : tie.Need-returns
+returns c = part-none (c .before .before .args .early) (c .before .before .args .n) (c .before .before .args .bus) (c .before .before .args .straps .addresses) (c .if1 .taken)
+
+returns-2 : tie.Need-returns-2
+returns-2 c = simp (← c .before .refusal .ensures) (search tests)
+
+returns-3 : tie.Need-returns-3
+returns-3 c = simp (← c .before .refusal .ensures) (search tests)
+
+pub part-open-spec : {M : Type 1} → statement M
+part-open-spec =
+    tie.close
+    (tie.spec
+    returns
+    (λ c κs. search needs)
+    returns-2
+    returns-3)

@@ -1,0 +1,15 @@
+-- `transfers::read_free` meets its contract. Assumes nothing.
+use borrow.Author.Needs.{needs}
+use Rattle.ground.proofs.Tests.{tests}
+use Rattle.transfers.proofs.read_free.Statement.{statement}
+use Rattle.transfers.proofs.read_free.Tie as tie
+
+pub read-free-spec : {M : Type 1} → statement M
+read-free-spec =
+    tie.close
+    (tie.spec
+    (λ c κs. search needs)
+    (λ c κs. search needs)
+    (λ c. simp (c .refused .ensures, ← c .before .before .refusal .ensures) (search tests))
+    (λ c κs. search needs)
+    (λ c. simp (c .answered .ensures, ← c .before .before .refusal .ensures) (search tests)))

@@ -1,0 +1,17 @@
+-- `transfers::read_open` meets its contract. Assumes nothing.
+use Rattle.ground.proofs.Tests.{tests}
+use borrow.Author.Needs.{needs}
+use Rattle.transfers.proofs.read_open.Statement.{statement}
+use Rattle.transfers.proofs.read_open.Tie as tie
+
+pub read-open-spec : {M : Type 1} → statement M
+read-open-spec =
+    tie.close
+    (tie.spec
+    (λ c κs. search needs)
+    (λ c. simp (c .answered .ensures) (search tests))
+    (λ c κs. search needs)
+    (λ c. simp (c .answered2 .ensures) (search tests))
+    (λ c κs. search needs)
+    (λ c κs. search needs)
+    (λ c. simp (c .before .sent-data .ensures, c .answered3 .ensures) (search tests)))

@@ -1,0 +1,49 @@
+-- `transfers::seven_bits` meets its contract. Assumes nothing.
+use Prim.Native.Nat.{_≤_, _-_}
+use native.Mathlib.Omega.{arith}
+use mathlib.Core.Path.{_≡_, refl, sym, _∙_}
+use lib.ListN.{length, getD, take, drop}
+use borrow.Author.Needs.{needs}
+use borrow.Author.Tests.{lt-ltb, le-ltb}
+use Rattle.bus.specs.Straps.{sevenBits}
+use Rattle.transfers.proofs.Loops.{seven-next, seven-end}
+use Rattle.transfers.proofs.seven_bits.Statement.{statement}
+use Rattle.transfers.proofs.seven_bits.Tie as tie
+
+abbrev Inv-loop : tie.InvT-loop
+Inv-loop n addresses i₀ i = (i ≤ n) × (sevenBits (take n addresses) ≡ sevenBits (drop i (take n addresses)))
+
+abbrev μ-loop : tie.MeasureT-loop
+μ-loop n addresses i₀ i = n - i
+
+loop-holds : tie.Need-loop-holds Inv-loop μ-loop
+loop-holds c = (omega arith, refl)
+
+returns : tie.Need-returns Inv-loop μ-loop
+returns c =
+    let l : length (c .before .before .before .before .args .straps .addresses) ≡ 16 = search needs in
+    sym (c .before .before .loop .inv .1 ∙ seven-next (c .before .before .before .before .args .n) (c .before .before .before .before .args .straps .addresses) (c .before .before .loop .i) (c .before .loop-test .taken) (omega arith) ∙ rw (le-ltb (getD (c .before .before .before .before .args .straps .addresses) (c .before .before .loop .i) 0) 128 (c .if1 .taken)))
+
+loop-again : tie.Need-loop-again Inv-loop μ-loop
+loop-again c =
+    let l : length (c .before .before .before .before .args .straps .addresses) ≡ 16 = search needs in
+    (omega arith, c .before .before .loop .inv .1 ∙ seven-next (c .before .before .before .before .args .n) (c .before .before .before .before .args .straps .addresses) (c .before .before .loop .i) (c .before .loop-test .taken) (omega arith) ∙ rw (lt-ltb (getD (c .before .before .before .before .args .straps .addresses) (c .before .before .loop .i) 0) 128 (omega (arith, c .if1 .left))))
+
+returns-2 : tie.Need-returns-2 Inv-loop μ-loop
+returns-2 c =
+    let e : c .before .loop .i ≡ c .before .before .before .args .n = omega arith in
+    sym (c .before .loop .inv .1 ∙ rw e (seven-end (c .before .before .before .args .n) (c .before .before .before .args .straps .addresses)))
+
+pub seven-bits-spec : {M : Type 1} → statement M
+seven-bits-spec =
+    tie.close
+    (tie.spec
+    Inv-loop
+    μ-loop
+    loop-holds
+    (λ c. search needs)
+    returns
+    (λ c. search needs)
+    (λ c. search needs)
+    loop-again
+    returns-2)

@@ -1,0 +1,12 @@
+-- `transfers::start_answer` meets its contract. Assumes nothing.
+use borrow.Author.Needs.{needs}
+use Rattle.transfers.proofs.start_answer.Statement.{statement}
+use Rattle.transfers.proofs.start_answer.Tie as tie
+
+pub start-answer-spec : {M : Type 1} → statement M
+start-answer-spec =
+    tie.close
+    (tie.spec
+    (λ c κs. search needs)
+    (λ c κs. search needs)
+    (λ c. simp (c .before .refusal .ensures, c .moved .ensures)))

@@ -57,7 +57,7 @@ static inline void store16(void *to, uint16_t x)
 /* The fields that have a bound, of every record seen. */
 typedef struct {
     uint64_t controls;
-    uint32_t config, flags, pins, blink;    /* flags: the interrupt and the answer mark */
+    uint32_t config, flags, pins, blink, command;    /* flags: the interrupt and the answer mark */
 } bounds;
 
 static inline void see(bounds *seen, const max6954_device *d)
@@ -68,12 +68,14 @@ static inline void see(bounds *seen, const max6954_device *d)
     seen->config |= load32(bytes + 8);
     seen->flags |= d->registers.keys.interrupt | d->answer_mark;
     seen->pins |= d->registers.pins;
+    seen->command |= d->command;
     seen->blink |= count | (CYCLE - 1 - count);    /* the top bit where the count isn't below the cycle */
 }
 
 static inline int unsound(const bounds *seen)
 {
-    return ((seen->controls & UNSOUND) | (seen->config & UNSOUND_CONFIG) | (seen->flags & ~1u) | (seen->pins & ~31u) | seen->blink >> 31) != 0;
+    return ((seen->controls & UNSOUND) | (seen->config & UNSOUND_CONFIG) | (seen->flags & ~1u) | (seen->pins & ~31u) | seen->blink >> 31 |
+            seen->command >> 7) != 0;
 }
 
 /* The number of a call that names a driver; some value of it gives 6 or not. */

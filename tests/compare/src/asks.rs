@@ -4,7 +4,7 @@ use crate::convert::{hex, hex_words};
 use crate::looks;
 use crate::random::Random;
 use crate::words;
-use second_double::Call;
+use second_double::{named_driver, Call};
 
 /// The kinds of calls, in the order of `kind_of`.
 pub const KINDS: [&str; 11] = [
@@ -35,23 +35,6 @@ pub fn kind_of(call: &Call) -> usize {
         Call::Interrupt { .. } => 8,
         Call::AnswerMark { .. } => 9,
         Call::LookBack { .. } => 10,
-    }
-}
-
-/// The driver that a call names; an access names none.
-pub fn driver_of(call: &Call) -> Option<usize> {
-    match call {
-        Call::Access { .. } => None,
-        Call::Scan { driver, .. }
-        | Call::Pins { driver, .. }
-        | Call::Clocks { driver, .. }
-        | Call::Plane { driver, .. }
-        | Call::Segments { driver, .. }
-        | Call::Brightness { driver, .. }
-        | Call::Shown { driver }
-        | Call::Interrupt { driver }
-        | Call::AnswerMark { driver }
-        | Call::LookBack { driver, .. } => Some(*driver),
     }
 }
 
@@ -223,6 +206,6 @@ pub fn spelled(call: &Call) -> String {
         } => format!("plane={plane} digit={digit} words={}", hex_words(words)),
         Call::Shown { .. } | Call::Interrupt { .. } | Call::AnswerMark { .. } => String::new(),
     };
-    let driver = driver_of(call).map_or(String::new(), |driver| format!("driver={driver} "));
+    let driver = named_driver(call).map_or(String::new(), |driver| format!("driver={driver} "));
     format!("{} {driver}{rest}", KINDS[kind_of(call)])
 }

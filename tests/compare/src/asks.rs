@@ -40,28 +40,35 @@ pub fn kind_of(call: &Call) -> usize {
 
 /// A call on a chain of n, mostly one that is served.
 pub fn call(random: &mut Random, n: usize) -> Call {
+    match random.below(5) {
+        0 | 1 => access(random, n),
+        _ => other(random, n),
+    }
+}
+
+/// One that isn't an access.
+pub fn other(random: &mut Random, n: usize) -> Call {
     let driver = driver(random, n);
-    match random.below(15) {
-        0..=5 => access(random, n),
-        6 | 7 => Call::Scan {
+    match random.below(9) {
+        0 | 1 => Call::Scan {
             driver,
             keys: words::keys(random),
         },
-        8 => Call::Pins {
+        2 => Call::Pins {
             driver,
             levels: within(random, 32, u32::MAX as usize) as u32,
         },
-        9 => Call::Clocks {
+        3 => Call::Clocks {
             driver,
             clocks: words::master_clocks(random),
         },
-        10 => plane(random, driver),
-        11 => segments(random, driver),
-        12 => Call::Brightness {
+        4 => plane(random, driver),
+        5 => segments(random, driver),
+        6 => Call::Brightness {
             driver,
             digit: within(random, 16, usize::MAX),
         },
-        13 => look_back(random, driver),
+        7 => look_back(random, driver),
         _ => flag(random, driver),
     }
 }

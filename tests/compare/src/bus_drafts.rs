@@ -125,7 +125,7 @@ fn slave_byte(random: &mut Random, n: usize, straps: &Straps) -> u8 {
         1 => 16,
         _ => n.clamp(1, 16),
     };
-    straps[random.below(parts)].wrapping_mul(2) | random.byte() % 2
+    straps[random.below(parts)].wrapping_mul(2) + random.byte() % 2
 }
 
 /// A call of the bus wherever it may stand.

@@ -80,29 +80,22 @@ fn run(part: &mut Part, met: &mut Met, case: usize) {
     };
     let length = 1 + random.below(LENGTH);
     for step in bus_drafts::list(&mut random, n, &straps, length, asks::call) {
-        let damaged = random.one_in(8).then(|| panel.damaged(&mut random));
-        let on = damaged.as_ref().unwrap_or(&panel).copied();
-        let mut after = on.copied();
-        let outcomes = after.make(&step);
-        let [ours, second] = &outcomes;
-        met.count(&on, &step, &second.reply);
+        let mut damaged = random.one_in(8).then(|| panel.damaged(&mut random));
+        let on = damaged.as_mut().unwrap_or(&mut panel);
+        let before = on.with(on.lent.row());
+        let [ours, second] = on.make(&step);
+        met.count(before.bus, &step, &second.reply);
         let differ = ours != second;
         let check = bus_call_of(&step).map_or(OTHERS, place);
-        part.count(check, case, differ.then(|| on.told(&step)));
+        part.count(check, case, differ.then(|| before.told(&step)));
         if differ {
             return;
-        }
-        if damaged.is_none() {
-            panel = after;
         }
     }
 }
 
 impl Panel {
-    fn copied(&self) -> Panel {
-        self.with(self.lent.row())
-    }
-
+    /// The same bus with these records.
     fn with(&self, row: &[Record]) -> Panel {
         Panel {
             lent: Lent::of(row),
@@ -152,18 +145,10 @@ impl Panel {
             .map(|Reply { number, back }| BusReply { number, bus, back }),
         };
         self.bus = replies[1].bus;
-        let [ours, theirs] = self.lent.records();
-        let [reply, second_reply] = replies;
-        [
-            Outcome {
-                reply,
-                records: ours,
-            },
-            Outcome {
-                reply: second_reply,
-                records: theirs,
-            },
-        ]
+        let [ours, second] = replies;
+        let [our_records, second_records] = self.lent.records();
+        [(ours, our_records), (second, second_records)]
+            .map(|(reply, records)| Outcome { reply, records })
     }
 
     /// The row before the call, simplified, the bus and the call, and the two outcomes: of the records, where they differ.
@@ -203,7 +188,7 @@ impl Outcome {
 }
 
 impl Met {
-    fn count(&mut self, on: &Panel, step: &Step, reply: &BusReply) {
+    fn count(&mut self, bus: Bus, step: &Step, reply: &BusReply) {
         let Some(call) = bus_call_of(step) else {
             return;
         };
@@ -211,7 +196,7 @@ impl Met {
         if reply.number != 0 {
             return;
         }
-        let state = usize::from(on.bus.phase) + if on.bus.part == 0 { 0 } else { 3 };
+        let state = usize::from(bus.phase) + if bus.part == 0 { 0 } else { 3 };
         self.states[place(call)][state] += 1;
         if let (BusCall::Write(_), 1) = (call, state) {
             self.slaves[usize::from(reply.back[0])] += 1;

@@ -26,9 +26,9 @@ static void spell(char *text, max6955_byte_answer a, int asked)
 {
     bus = a.bus;
     if (a.number)
-        sprintf(text, " refused");
+        strcpy(text, " refused");
     else if (a.acknowledged == 1 && !asked)
-        sprintf(text, a.data ? " +data" : " +");
+        strcpy(text, a.data ? " +data" : " +");
     else
         sprintf(text, " %c%02X", a.acknowledged == 1 ? '+' : a.acknowledged ? '?' : '-', a.data);
 }

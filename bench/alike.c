@@ -4,6 +4,7 @@
 #include <string.h>
 #include "cases.h"
 #include "random.h"
+#include "records.h"
 #include "tuned.h"
 
 enum { ROWS = 50000, CALLS_ON_A_ROW = 12, GUARD = 8 };
@@ -127,10 +128,9 @@ static reply made(const calls *by, lent *on, const call *c)
     return r;
 }
 
-/* Records have no padding. */
 static int same_record(size_t i)
 {
-    return memcmp(&after[0].records[i], &after[1].records[i], sizeof after[0].records[i]) == 0;
+    return same_fields(&after[0].records[i], &after[1].records[i]);
 }
 
 static int same(const reply *r, size_t n)
@@ -211,7 +211,7 @@ static int row_is_alike(unsigned long given[KINDS][8])
 static int power_up_is_alike(void)
 {
     const max6954_device ours = max6954_power_up(), tuned = tuned_power_up();
-    const int alike = memcmp(&ours, &tuned, sizeof ours) == 0;
+    const int alike = same_fields(&ours, &tuned);
     if (!alike) {
         printf("DIFFERENCE: power_up\n");
         print_bytes(doubles[0].name, &ours, sizeof ours);

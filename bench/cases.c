@@ -25,6 +25,7 @@ static max6954_device sound(void)
     r->pins &= 31;
     r->blink = one_in(2) ? (uint32_t)below(4000000) : ONE_OF(0, 999999, 1000000, 1999999, 2000000, 2999999, 3000000, 3999999);
     d.answer_mark &= 1;
+    d.command &= 127;
     return d;
 }
 
@@ -43,6 +44,7 @@ static void spoil(max6954_device *d)
     } fields[] = {
         { &r->controls.global, 15 }, { &r->controls.limit, 7 }, { &r->controls.gpio, 31 }, { &r->controls.test, 1 }, { &r->config.i, 1 },
         { &r->config.e, 1 },         { &r->config.b, 1 },       { &r->config.s, 1 },       { &r->keys.interrupt, 1 }, { &d->answer_mark, 1 },
+        { &d->command, 127 },
     };
     const size_t count = sizeof fields / sizeof fields[0], k = below(count + 3);
     if (k < count)

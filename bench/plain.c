@@ -9,7 +9,7 @@ static int is_sound(const max6954_device *d)
     const max6954_registers *r = &d->registers;
     const max6954_controls *c = &r->controls;
     return c->global < 16 && c->limit < 8 && c->gpio < 32 && c->test < 2 && r->config.i < 2 && r->config.e < 2 && r->config.b < 2 && r->config.s < 2 &&
-           r->keys.interrupt < 2 && r->pins < 32 && r->blink < CYCLE && d->answer_mark < 2;
+           r->keys.interrupt < 2 && r->pins < 32 && r->blink < CYCLE && d->answer_mark < 2 && d->command < 128;
 }
 
 static int all_sound(const max6954_device *chain, size_t n)

@@ -10,6 +10,8 @@
 
 _Static_assert(__BYTE_ORDER__ == __ORDER_LITTLE_ENDIAN__, "records are read by words");
 _Static_assert(CONTROL(decode) == 0 && CONTROL(types) == 6 && OFFSET(registers.config.i) == 7 && OFFSET(registers.config.s) == 10, "as in UNSOUND");
+_Static_assert(OFFSET(answer_mark) == OFFSET(shift) + 3 && OFFSET(command) == OFFSET(shift) + 4, "as in UNSOUND_TAIL");
+_Static_assert(sizeof(max6954_device) == OFFSET(shift) + 8, "a record ends with the eight bytes of its tail");
 _Static_assert(sizeof(max6954_group) == 4 && KEY(d, mask) == KEY(a, mask) + 12, "a scan takes the groups as four words");
 
 static inline uint64_t load64(const void *from)
@@ -52,12 +54,16 @@ static inline void store16(void *to, uint16_t x)
 #define UNSOUND (0xF0ull << 8 | 0xF8ull << 16 | 0xE0ull << 24 | 0xFEull << 40 | 0xFEull << 56)
 #define UNSOUND_CONFIG 0x00FEFEFEu
 
+/* So of the shift word, fitted, answer mark and command address, and of the padding. */
+#define UNSOUND_TAIL (0xFEull << 24 | 0x80ull << 32)
+
 #define CYCLE 4000000u
 
 /* The fields that have a bound, of every record seen. */
 typedef struct {
     uint64_t controls;
-    uint32_t config, flags, pins, blink;    /* flags: the interrupt and the answer mark */
+    uint64_t tail;    /* from the shift word on */
+    uint32_t config, interrupt, pins, blink;
 } bounds;
 
 static inline void see(bounds *seen, const max6954_device *d)
@@ -66,14 +72,16 @@ static inline void see(bounds *seen, const max6954_device *d)
     const uint32_t count = d->registers.blink;
     seen->controls |= load64(bytes);
     seen->config |= load32(bytes + 8);
-    seen->flags |= d->registers.keys.interrupt | d->answer_mark;
+    seen->tail |= load64(&d->shift);
+    seen->interrupt |= d->registers.keys.interrupt;
     seen->pins |= d->registers.pins;
     seen->blink |= count | (CYCLE - 1 - count);    /* the top bit where the count isn't below the cycle */
 }
 
 static inline int unsound(const bounds *seen)
 {
-    return ((seen->controls & UNSOUND) | (seen->config & UNSOUND_CONFIG) | (seen->flags & ~1u) | (seen->pins & ~31u) | seen->blink >> 31) != 0;
+    return ((seen->controls & UNSOUND) | (seen->tail & UNSOUND_TAIL) | (seen->config & UNSOUND_CONFIG) | (seen->interrupt & ~1u) |
+            (seen->pins & ~31u) | seen->blink >> 31) != 0;
 }
 
 /* The number of a call that names a driver; some value of it gives 6 or not. */

@@ -1,11 +1,14 @@
-/* The bench double of a chain of MAX6954, for C and C++. make lib puts it into target/lib, beside the libratchetelm.a and libratchetelm.so to link.
+/* The bench double of a chain of MAX6954 and of a bus of MAX6955, for C and C++. make lib puts it into target/lib, beside the libratchetelm.a and
+   libratchetelm.so to link.
 
-   A chain is an array of 1 to 16 records, nearest the controller first, lent to each call as a pointer and a length. Drivers are counted from 1.
+   A chain is an array of 1 to 16 records, nearest the controller first, lent to each call as a pointer and a length. Drivers are counted from 1. So
+   are the parts on a two-wire bus, whose records are the same: scans, pin levels, clocks and questions are those of a chain.
    No call allocates, keeps a pointer or writes where it was not lent. Any bytes are a record: one that isn't sound is refused, never undefined.
 
    The caller sees to it that a pointer is valid and aligned for the length that comes with it (NULL will do for 0), that what a call writes (the
-   chain of an access, a scan, pin levels or clocks; the answer bytes; a plan's list or its bytes) overlaps nothing else that is lent to it, so
-   answer isn't sent, and that nobody else writes the records meanwhile. Lengths count elements: records, bytes, or words of a glyph table or list.
+   chain of an access, a scan, pin levels, clocks or a byte of the bus; the answer bytes; a plan's list or its bytes) overlaps nothing else that is
+   lent to it, so answer isn't sent, and that nobody else writes the records meanwhile. Lengths count elements: records, bytes, or words of a glyph
+   table or list.
 
    Each call gives a number: 0 where it is served, else the lowest of these that applies, and then no record and no lent byte has changed:
      1 the chain has 0 or more than 16 records
@@ -15,7 +18,10 @@
      5 room for answer bytes fewer than the clocks need
      6 cathode above 7, pin levels above 31, a digit (alone or in a range) above 15, a plane above 1, a range's last digit below its first, a lent
        plane not 16 long, or a glyph table not 128 long
-     7 some record of the chain isn't sound: a field doesn't fit its register, the blink count isn't below 4,000,000, or the answer mark is above 1
+     7 some record of the chain isn't sound, or the bus state isn't: a field of a record doesn't fit its register, its blink count isn't below
+       4,000,000, its answer mark is above 1 or its command address above 127; the bus state names a part above n, or its phase is above 2
+    10 two parts with one address
+    11 address above 127
     12 wanted planes not 32 bytes a driver
     13 room for the list too small for the shortest
    Any call that is lent a chain may give 1 and 7, one that names a driver 2 too; which of the others it may give stands with it. */
@@ -25,11 +31,12 @@
 #include <stddef.h>
 #include <stdint.h>
 
-/* 0.5.0: 10,000 for each of the first number, 100 of the second, 1 of the third. */
-#define RATCHETELM_VERSION 500
+/* 0.6.0: 10,000 for each of the first number, 100 of the second, 1 of the third. */
+#define RATCHETELM_VERSION 600
 
-/* The bytes of a record as the library has it. A program can test at its start that its compiler lays it out alike: sizeof(max6954_device) is this. */
-#define MAX6954_DEVICE_SIZE 80
+/* The bytes of a record as the library has it. A program can test at its start that its compiler lays it out alike: sizeof(max6954_device) is this.
+   The last three are padding, which no call reads and a served one may change. */
+#define MAX6954_DEVICE_SIZE 84
 
 /* The wanted bytes of one driver, and the most accesses that a plan has: 13 isn't given where the room is so many words for each driver. */
 #define MAX6954_WANTED_SIZE 32
@@ -39,7 +46,7 @@
 extern "C" {
 #endif
 
-/* The words of a number: 1 to 7, 12 and 13 are the calls', 8 and 9 the panel program's. */
+/* The words of a number: 8 and 9 are the panel program's, the others the calls'. */
 static inline const char *max6954_refusal_text(uint8_t number)
 {
     switch (number) {
@@ -59,11 +66,15 @@ static inline const char *max6954_refusal_text(uint8_t number)
         return "cathode above 7, pin levels above 31, a digit (alone or in a range) above 15, a plane above 1, "
                "a range's last digit below its first, a lent plane not 16 long, or a glyph table not 128 long";
     case 7:
-        return "some record of the chain isn't sound";
+        return "some record of the chain isn't sound, or the bus state isn't";
     case 8:
         return "script: wrong mark, unknown kind, cut record, length not fitting its kind, or a chain record that isn't first";
     case 9:
         return "script longer than 65,536 bytes";
+    case 10:
+        return "two parts with one address";
+    case 11:
+        return "address above 127";
     case 12:
         return "wanted planes not 32 bytes a driver";
     case 13:
@@ -129,6 +140,7 @@ typedef struct {
     uint16_t shift;         /* the shift word, D15 to D0: the next access clocks it out */
     uint8_t fitted;         /* bit d: cathode d has a 7-segment pair where its digit type is 0, else 16 segments; no call changes it */
     uint8_t answer_mark;    /* 1 when the word that the driver last took was a read, so that the shift word is its answer, else 0 */
+    uint8_t command;        /* the command address of a two-wire part, 7 bits: where its next data byte is; accesses leave it */
 } max6954_device;
 
 /* A pin of a segment answer. */
@@ -189,6 +201,38 @@ typedef struct {
     uint8_t number;
     uint8_t accepted;    /* 1 when the list is accepted, else 0; 0 where refused */
 } max6954_plan_check_answer;
+
+/* What goes on on a two-wire bus, kept by the caller from call to call. A part is named by its place among the records, from 1; 0 names none. */
+typedef struct {
+    size_t part;
+    uint8_t phase;    /* of part 0 MAX6955_IDLE and the two after it, of a part MAX6955_COMMAND and the two after it */
+} max6955_bus;
+
+enum {
+    MAX6955_IDLE = 0,            /* after a stop: so a bus begins */
+    MAX6955_AWAITS_SLAVE = 1,    /* after a start */
+    MAX6955_UNMATCHED = 2,       /* after a slave byte that is nobody's: a start is awaited */
+    MAX6955_COMMAND = 0,         /* the part is written: its command address comes next */
+    MAX6955_WRITES = 1,          /* and then data */
+    MAX6955_READS = 2            /* the part is read */
+};
+
+/* The seven-bit addresses of sixteen parts, in the order of their records; of n parts the first n count. */
+typedef struct {
+    uint8_t addresses[16];
+} max6955_straps;
+
+typedef struct {
+    uint8_t number;
+    max6955_bus bus;    /* after the call; as given where refused */
+} max6955_bus_answer;
+
+typedef struct {
+    uint8_t number;
+    max6955_bus bus;         /* after the call; as given where refused */
+    uint8_t acknowledged;    /* 1 when a part took or drove the byte, else 0; 0 where refused */
+    uint8_t data;            /* of a byte read; 0 of one taken, 255 of one that isn't acknowledged, 0 where refused */
+} max6955_byte_answer;
 
 /* A driver at power-up: in shutdown, every cathode fitted with a 7-segment pair. */
 max6954_device max6954_power_up(void);
@@ -264,6 +308,23 @@ max6954_plan_check_answer max6954_plan_check(const max6954_device *chain, size_t
 /* The 2n bytes to send for an access of a list, counted from 0: to be given to max6954_access with 16n clocks. Bytes after them stay. Gives 1 for n,
    4 where the list lacks that access, and 5 where the room is under 2n. */
 uint8_t max6954_plan_bytes(size_t n, const uint16_t *list, size_t list_length, size_t access, uint8_t *bytes, size_t room);
+
+/* The two-wire bus of the MAX6955: any of its calls may give 1, 7, 10 and 11, in this order, and no other. None is refused for being out of place.
+
+   A start, in any state: the bus awaits a slave byte, which is twice an address, and 1 more for a read. A start within a transaction ends it. */
+max6955_bus_answer max6955_start(const max6954_device *parts, size_t n, max6955_bus bus, max6955_straps straps);
+
+/* A stop, in any state: the bus is idle. The parts keep their command addresses. */
+max6955_bus_answer max6955_stop(const max6954_device *parts, size_t n, max6955_bus bus, max6955_straps straps);
+
+/* A byte that the controller gives: the slave byte; then, to the part that is written, its command address, whose top bit is ignored, and data,
+   each stored at that address, which then steps by one and stays at 127. Elsewhere nobody acknowledges it, and it changes nothing, but a slave byte
+   that is nobody's makes the bus await a start. */
+max6955_byte_answer max6955_write(max6954_device *parts, size_t n, max6955_bus bus, max6955_straps straps, uint8_t byte);
+
+/* A byte that the controller asks for: from the part that is read, the data at its command address, which then steps in the same way. Elsewhere
+   nobody acknowledges it, and it changes nothing. */
+max6955_byte_answer max6955_read(max6954_device *parts, size_t n, max6955_bus bus, max6955_straps straps);
 
 #ifdef __cplusplus
 }

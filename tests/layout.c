@@ -3,7 +3,7 @@
 #include <stddef.h>
 #include <stdio.h>
 #include <string.h>
-#include "ratchetelm.h"
+#include "../bench/records.h"
 
 /* The driver under test has a neighbour on each side. */
 enum { DRIVERS = 3, DRIVER = 2 };
@@ -12,7 +12,8 @@ static max6954_device chain[DRIVERS];
 static int passed, failed;
 
 /* Steps are text, each a letter and a hex number: W a word sent to the driver, S a scan (a byte for each group, A first), P pin levels, C master
-   clocks. Questions too: W gives the word that comes out, R a register's data, I the interrupt, M the answer mark, O a pin of cathode 0. */
+   clocks, A a command address given on the two-wire bus. Questions too: W gives the word that comes out, R a register's data, I the interrupt, M the
+   answer mark, O a pin of cathode 0, G a byte got on the two-wire bus. */
 typedef struct {
     const char *name;
     size_t offset, width, elements;
@@ -60,6 +61,7 @@ static const field fields[] = {
     { FIELD(shift), "", "W7F5A", 0x7F5A, "W0000", 0x7F5A, 0 },
     { FIELD(fitted), "W0401", NULL, 0, "O3", MAX6954_UNLIT, 0 },
     { FIELD(answer_mark), "", "W8000", 1, "M0", 1, 2 },
+    { FIELD(command), "", "A6", 6, "G0", 0x1F, 128 },
 };
 
 static void holds(const char *what, const char *name, int yes)
@@ -81,6 +83,15 @@ static unsigned sent(unsigned word)
     return answer[at] * 256u + answer[at + 1];
 }
 
+/* A transaction with the driver: a slave byte, then a byte given or asked for; gives the data of that. */
+static unsigned transaction(uint8_t slave, int read, uint8_t byte)
+{
+    const max6955_straps straps = { { 0x60, 0x61, 0x62, 255 } };
+    const max6955_bus idle = { 0, MAX6955_IDLE }, awaits = max6955_start(chain, DRIVERS, idle, straps).bus;
+    const max6955_bus open = max6955_write(chain, DRIVERS, awaits, straps, slave).bus;
+    return (read ? max6955_read(chain, DRIVERS, open, straps) : max6955_write(chain, DRIVERS, open, straps, byte)).data;
+}
+
 /* One step; what it gives where it is a question, else its call's number. */
 static unsigned stepped(char kind, unsigned v)
 {
@@ -97,6 +108,10 @@ static unsigned stepped(char kind, unsigned v)
         return max6954_set_pins(chain, DRIVERS, DRIVER, v);
     case 'C':
         return max6954_add_clocks(chain, DRIVERS, DRIVER, v);
+    case 'A':
+        return transaction(0xC2, 0, (uint8_t)v);
+    case 'G':
+        return transaction(0xC3, 1, 0);
     case 'I':
         return max6954_interrupt(chain, DRIVERS, DRIVER).raised;
     case 'M':
@@ -140,10 +155,12 @@ static void put(const field *f, unsigned k, unsigned v)
     memcpy(place(chain, f, k), from, f->width);
 }
 
-/* Records have no padding: see covered. */
 static int same(const max6954_device *records)
 {
-    return memcmp(chain, records, sizeof chain) == 0;
+    int all = 1;
+    for (int i = 0; i < DRIVERS; i++)
+        all = all && same_fields(&chain[i], &records[i]);
+    return all;
 }
 
 /* The driver's shift word and answer mark as a word sent left them. */
@@ -199,10 +216,10 @@ static int each_element(const field *f, int (*check)(const field *, unsigned))
     return all;
 }
 
-/* Each byte of a record is of one row. */
+/* Each byte of a record is of one row, but for the padding after its last field. */
 static int covered(void)
 {
-    int rows[sizeof(max6954_device)] = { 0 }, all = 1;
+    int rows[offsetof(max6954_device, command) + 1] = { 0 }, all = 1;
     for (size_t i = 0; i < sizeof fields / sizeof fields[0]; i++)
         for (size_t b = 0; b < fields[i].width * fields[i].elements; b++)
             rows[fields[i].offset + b]++;
@@ -223,7 +240,7 @@ static int powered_up(void)
     memset(up.registers.planes.p1, 32, 8);
     up.fitted = 255;
     const max6954_device given = max6954_power_up();
-    return memcmp(&given, &up, sizeof up) == 0;
+    return same_fields(&given, &up);
 }
 
 /* Each answer's fields, served to the driver and refused to one that isn't there. */
@@ -281,6 +298,29 @@ static void plan_answers(void)
     holds("refused", "plan check answer", c12.number == 12 && c12.accepted == 0);
 }
 
+/* So of the bus: where its fields are, and what comes and goes by value. */
+static void bus_answers(void)
+{
+    const max6955_straps straps = { { 0x60, 0x61, 0x62, 255, 1, 2, 3, 4, 5, 6, 7, 8, 9, 10, 11, 12 } }, last = { { 0x60, 0x61, 0x61 } };
+    const max6955_bus open = { DRIVER, MAX6955_READS };
+    holds("two words", "bus", sizeof(max6955_bus) == 2 * sizeof(size_t) && offsetof(max6955_bus, phase) == sizeof(size_t));
+    holds("sixteen bytes", "straps", sizeof straps == 16);
+    holds("three words", "bus answer", sizeof(max6955_bus_answer) == 3 * sizeof(size_t) && offsetof(max6955_bus_answer, bus) == sizeof(size_t));
+    holds("four words", "byte answer",
+          sizeof(max6955_byte_answer) == 4 * sizeof(size_t) && offsetof(max6955_byte_answer, bus) == sizeof(size_t) &&
+              offsetof(max6955_byte_answer, acknowledged) == 3 * sizeof(size_t) && offsetof(max6955_byte_answer, data) == 3 * sizeof(size_t) + 1);
+    prepare("W0209 A2");
+    const max6955_bus_answer s = max6955_start(chain, DRIVERS, open, straps), s10 = max6955_start(chain, DRIVERS, open, last);
+    holds("served", "bus answer", s.number == 0 && s.bus.part == 0 && s.bus.phase == MAX6955_AWAITS_SLAVE);
+    holds("refused", "bus answer", s10.number == 10 && s10.bus.part == DRIVER && s10.bus.phase == MAX6955_READS);
+    const max6955_byte_answer r = max6955_read(chain, DRIVERS, open, straps), r10 = max6955_read(chain, DRIVERS, open, last);
+    holds("served", "byte answer", r.number == 0 && r.bus.part == DRIVER && r.bus.phase == MAX6955_READS && r.acknowledged == 1 && r.data == 9);
+    holds("refused", "byte answer", r10.number == 10 && r10.bus.part == DRIVER && r10.bus.phase == MAX6955_READS && r10.acknowledged == 0 && r10.data == 0);
+    const max6955_byte_answer w = max6955_write(chain, DRIVERS, s.bus, straps, 0xC4), w10 = max6955_write(chain, DRIVERS, s.bus, last, 0xC4);
+    holds("served", "byte answer of one given", w.number == 0 && w.bus.part == 3 && w.bus.phase == MAX6955_COMMAND && w.acknowledged == 1 && w.data == 0);
+    holds("refused", "byte answer of one given", w10.number == 10 && w10.bus.part == 0 && w10.bus.phase == MAX6955_AWAITS_SLAVE && w10.acknowledged == 0);
+}
+
 int main(void)
 {
     holds("the size that the header names", "device", sizeof(max6954_device) == MAX6954_DEVICE_SIZE);
@@ -295,6 +335,7 @@ int main(void)
     }
     answers();
     plan_answers();
+    bus_answers();
     printf("%d passed, %d failed\n", passed, failed);
     return failed != 0;
 }

@@ -1,4 +1,4 @@
-//! A bench double of a chain of MAX6954 LED display drivers, proved in Rattle.
+//! A bench double of a chain of MAX6954 LED display drivers, and of a bus of MAX6955 ([`two_wire`]), proved in Rattle.
 //!
 //! A chain is any slice of 1 to 16 [`Device`] records, nearest the controller first. Drivers are counted from 1. A call is
 //! served, or refused with the lowest [`Refusal`] that applies; then no record and no lent byte has changed.
@@ -53,6 +53,7 @@
 mod records;
 mod refusal;
 mod sys;
+pub mod two_wire;
 
 pub use records::{Config, Controls, Device, Group, Keys, Planes, Registers};
 pub use refusal::Refusal;

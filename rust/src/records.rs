@@ -98,6 +98,8 @@ pub struct Device {
     pub fitted: u8,
     /// 1 when the word that the driver last took was a read, so that the shift word is its answer, else 0.
     pub answer_mark: u8,
+    /// The command address of a two-wire part, 7 bits: where its next data byte is; accesses leave it.
+    pub command: u8,
 }
 
 impl Device {

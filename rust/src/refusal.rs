@@ -11,12 +11,14 @@ pub enum Refusal {
     AnswerTooShort = 5,
     OutOfRange = 6,
     Unsound = 7,
+    OneAddress = 10,
+    AddressTooHigh = 11,
     WantedLength = 12,
     ListTooShort = 13,
 }
 
 impl Refusal {
-    const ALL: [Refusal; 9] = [
+    const ALL: [Refusal; 11] = [
         Refusal::ChainLength,
         Refusal::DriverNumber,
         Refusal::TooManyClocks,
@@ -24,6 +26,8 @@ impl Refusal {
         Refusal::AnswerTooShort,
         Refusal::OutOfRange,
         Refusal::Unsound,
+        Refusal::OneAddress,
+        Refusal::AddressTooHigh,
         Refusal::WantedLength,
         Refusal::ListTooShort,
     ];
@@ -55,7 +59,9 @@ impl fmt::Display for Refusal {
                 "cathode above 7, pin levels above 31, a digit (alone or in a range) above 15, a plane above 1, \
                  a range's last digit below its first, a lent plane not 16 long, or a glyph table not 128 long"
             }
-            Refusal::Unsound => "some record of the chain isn't sound",
+            Refusal::Unsound => "some record of the chain isn't sound, or the bus state isn't",
+            Refusal::OneAddress => "two parts with one address",
+            Refusal::AddressTooHigh => "address above 127",
             Refusal::WantedLength => "wanted planes not 32 bytes a driver",
             Refusal::ListTooShort => "room for the list too small for the shortest",
         })

@@ -3,6 +3,7 @@
 // A record that isn't laid out as in C is not built.
 #![deny(improper_ctypes)]
 
+use crate::two_wire::Bus;
 use crate::Device;
 
 #[repr(C)]
@@ -52,6 +53,25 @@ pub struct PlanAnswer {
 pub struct PlanCheckAnswer {
     pub number: u8,
     pub accepted: u8,
+}
+
+#[repr(C)]
+pub struct Straps {
+    pub addresses: [u8; 16],
+}
+
+#[repr(C)]
+pub struct BusAnswer {
+    pub number: u8,
+    pub bus: Bus,
+}
+
+#[repr(C)]
+pub struct ByteAnswer {
+    pub number: u8,
+    pub bus: Bus,
+    pub acknowledged: u8,
+    pub data: u8,
 }
 
 extern "C" {
@@ -153,4 +173,18 @@ extern "C" {
         bytes: *mut u8,
         room: usize,
     ) -> u8;
+
+    pub fn max6955_start(parts: *const Device, n: usize, bus: Bus, straps: Straps) -> BusAnswer;
+
+    pub fn max6955_stop(parts: *const Device, n: usize, bus: Bus, straps: Straps) -> BusAnswer;
+
+    pub fn max6955_write(
+        parts: *mut Device,
+        n: usize,
+        bus: Bus,
+        straps: Straps,
+        byte: u8,
+    ) -> ByteAnswer;
+
+    pub fn max6955_read(parts: *mut Device, n: usize, bus: Bus, straps: Straps) -> ByteAnswer;
 }

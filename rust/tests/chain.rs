@@ -494,6 +494,8 @@ fn refusals_have_the_numbers_and_words_of_the_header() {
         (5, Refusal::AnswerTooShort),
         (6, Refusal::OutOfRange),
         (7, Refusal::Unsound),
+        (10, Refusal::OneAddress),
+        (11, Refusal::AddressTooHigh),
         (12, Refusal::WantedLength),
         (13, Refusal::ListTooShort),
     ];

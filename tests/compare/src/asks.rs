@@ -4,7 +4,7 @@ use crate::convert::{hex, hex_words};
 use crate::looks;
 use crate::random::Random;
 use crate::words;
-use second_double::Call;
+use second_double::{named_driver, Call};
 
 /// The kinds of calls, in the order of `kind_of`.
 pub const KINDS: [&str; 11] = [
@@ -38,47 +38,37 @@ pub fn kind_of(call: &Call) -> usize {
     }
 }
 
-/// The driver that a call names; an access names none.
-pub fn driver_of(call: &Call) -> Option<usize> {
-    match call {
-        Call::Access { .. } => None,
-        Call::Scan { driver, .. }
-        | Call::Pins { driver, .. }
-        | Call::Clocks { driver, .. }
-        | Call::Plane { driver, .. }
-        | Call::Segments { driver, .. }
-        | Call::Brightness { driver, .. }
-        | Call::Shown { driver }
-        | Call::Interrupt { driver }
-        | Call::AnswerMark { driver }
-        | Call::LookBack { driver, .. } => Some(*driver),
+/// A call on a chain of n, mostly one that is served.
+pub fn call(random: &mut Random, n: usize) -> Call {
+    match random.below(5) {
+        0 | 1 => access(random, n),
+        _ => other(random, n),
     }
 }
 
-/// A call on a chain of n, mostly one that is served.
-pub fn call(random: &mut Random, n: usize) -> Call {
+/// One that isn't an access.
+pub fn other(random: &mut Random, n: usize) -> Call {
     let driver = driver(random, n);
-    match random.below(15) {
-        0..=5 => access(random, n),
-        6 | 7 => Call::Scan {
+    match random.below(9) {
+        0 | 1 => Call::Scan {
             driver,
             keys: words::keys(random),
         },
-        8 => Call::Pins {
+        2 => Call::Pins {
             driver,
             levels: within(random, 32, u32::MAX as usize) as u32,
         },
-        9 => Call::Clocks {
+        3 => Call::Clocks {
             driver,
             clocks: words::master_clocks(random),
         },
-        10 => plane(random, driver),
-        11 => segments(random, driver),
-        12 => Call::Brightness {
+        4 => plane(random, driver),
+        5 => segments(random, driver),
+        6 => Call::Brightness {
             driver,
             digit: within(random, 16, usize::MAX),
         },
-        13 => look_back(random, driver),
+        7 => look_back(random, driver),
         _ => flag(random, driver),
     }
 }
@@ -223,6 +213,6 @@ pub fn spelled(call: &Call) -> String {
         } => format!("plane={plane} digit={digit} words={}", hex_words(words)),
         Call::Shown { .. } | Call::Interrupt { .. } | Call::AnswerMark { .. } => String::new(),
     };
-    let driver = driver_of(call).map_or(String::new(), |driver| format!("driver={driver} "));
+    let driver = named_driver(call).map_or(String::new(), |driver| format!("driver={driver} "));
     format!("{} {driver}{rest}", KINDS[kind_of(call)])
 }

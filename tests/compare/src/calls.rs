@@ -1,12 +1,12 @@
 //! Every exported call on random rows, sound and unsound, beside the second double.
 
 use crate::asks::{self, KINDS};
-use crate::convert::{self, hex, unlike};
+use crate::convert::{hex, unlike};
+use crate::lent::Lent;
 use crate::proved;
 use crate::random::Random;
 use crate::report::{Lines, Part};
 use crate::rows;
-use ratchetelm::Device;
 use second_double::{Call, Record, Reply};
 
 const ROWS: usize = 100_000;
@@ -30,47 +30,25 @@ const NUMBERS: [&[usize]; KINDS.len()] = [
 /// How often each kind of call gave each number.
 type Given = [[usize; 8]; KINDS.len()];
 
-/// One row lent to both doubles, a guard record on either side.
-struct Rows {
-    library: Vec<Device>,
-    second: Vec<Record>,
-}
-
-impl Rows {
-    fn of(row: &[Record]) -> Rows {
-        let guard = [Record::power_up()];
-        let second = [&guard, row, &guard].concat();
-        Rows {
-            library: convert::devices(&second),
-            second,
-        }
-    }
-
-    fn row(&self) -> &[Record] {
-        &self.second[1..self.second.len() - 1]
-    }
-
-    /// What a call does by the library, and by the second double.
-    fn ask(&mut self, call: &Call) -> [Outcome; 2] {
-        let row = 1..self.second.len() - 1;
-        let library = &mut self.library[row.clone()];
-        let (ours, our_part) = (proved::call(library, call), proved::part(library, call));
-        let row = &mut self.second[row];
-        let second = second_double::call(row, call);
-        let second_part = part(row, call, second.number);
-        [
-            Outcome {
-                reply: ours,
-                part: our_part,
-                records: convert::records(&self.library),
-            },
-            Outcome {
-                reply: second,
-                part: second_part,
-                records: self.second.clone(),
-            },
-        ]
-    }
+/// What a call does by the library, and by the second double.
+fn ask(lent: &mut Lent, call: &Call) -> [Outcome; 2] {
+    let (library, row) = lent.rows();
+    let (ours, our_part) = (proved::call(library, call), proved::part(library, call));
+    let second = second_double::call(row, call);
+    let second_part = part(row, call, second.number);
+    let [our_records, second_records] = lent.records();
+    [
+        Outcome {
+            reply: ours,
+            part: our_part,
+            records: our_records,
+        },
+        Outcome {
+            reply: second,
+            part: second_part,
+            records: second_records,
+        },
+    ]
 }
 
 /// What the second double has for `proved::part`: the number of a part, and that with the plane shown, 0 where refused.
@@ -146,16 +124,16 @@ pub fn compare(seed: u64, times: usize) -> Part {
 fn run(part: &mut Part, given: &mut Given, case: usize) {
     let mut random = Random::of(part.seed, "calls", case);
     let n = rows::length(&mut random);
-    let mut rows = Rows::of(&rows::row(&mut random, n));
+    let mut lent = Lent::of(&rows::row(&mut random, n));
     for _ in 0..CALLS_ON_A_ROW {
         let call = asks::call(&mut random, n);
-        let mut before = rows.row().to_vec();
+        let mut before = lent.row().to_vec();
         let mut unsound = None;
         if random.one_in(8) {
             rows::spoil(&mut random, &mut before);
-            unsound = Some(Rows::of(&before));
+            unsound = Some(Lent::of(&before));
         }
-        let outcomes = unsound.as_mut().unwrap_or(&mut rows).ask(&call);
+        let outcomes = ask(unsound.as_mut().unwrap_or(&mut lent), &call);
         let kind = asks::kind_of(&call);
         given[kind][usize::from(outcomes[1].reply.number)] += 1;
         let differ = outcomes[0] != outcomes[1];
@@ -168,7 +146,7 @@ fn run(part: &mut Part, given: &mut Given, case: usize) {
 
 /// The row before the call, simplified, the call, and the two outcomes: of the records, where they differ.
 fn told(before: &[Record], call: &Call) -> Lines {
-    let ask = |row: &[Record]| Rows::of(row).ask(call);
+    let ask = |row: &[Record]| ask(&mut Lent::of(row), call);
     let row = rows::simplify(before, |row| {
         let [ours, second] = ask(row);
         ours != second

@@ -38,6 +38,7 @@ pub fn device(record: &Record) -> Device {
         shift: record.shift,
         fitted: record.fitted,
         answer_mark: record.answer_mark,
+        command: record.command,
     }
 }
 
@@ -83,6 +84,7 @@ pub fn record(device: &Device) -> Record {
         shift: device.shift,
         fitted: device.fitted,
         answer_mark: device.answer_mark,
+        command: device.command,
     }
 }
 
@@ -135,6 +137,7 @@ fn fields(record: &Record) -> Vec<String> {
     add("shift", &record.shift.to_be_bytes());
     add("fitted", &[record.fitted]);
     add("answer_mark", &[record.answer_mark]);
+    add("command", &[record.command]);
     fields
 }
 

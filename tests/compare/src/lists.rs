@@ -1,13 +1,13 @@
 //! Lists of calls on a chain of the library, each driver beside a lone driver of the second double.
 
-use crate::asks::{self, driver_of, spelled};
+use crate::asks::{self, spelled};
 use crate::convert::{self, hex, unlike};
 use crate::proved;
 use crate::random::Random;
 use crate::report::{shrink, Lines, Part};
 use crate::rows;
 use ratchetelm::Device;
-use second_double::{Call, Lone, Record, Reply};
+use second_double::{named_driver, Call, Lone, Record, Reply};
 
 const LISTS: usize = 20_000;
 const LONGEST: usize = 60;
@@ -117,7 +117,7 @@ fn own_answer(n: usize, driver: usize, call: &Call, reply: &Reply) -> Option<Vec
         let first = 2 * (n - driver);
         return Some(reply.back[first..first + 2].to_vec());
     }
-    let own = driver_of(call) == Some(driver) && !reply.back.is_empty();
+    let own = named_driver(call) == Some(driver) && !reply.back.is_empty();
     own.then(|| reply.back.clone())
 }
 

@@ -1,6 +1,9 @@
 //! Runs the comparison. COMPARE_SEED is another seed, COMPARE_TIMES a longer run, COMPARE_PANEL another panel program.
 
-use compare::{calls, least, lists, look_backs, plan_bytes, plan_checks, plans, scripts, sent};
+use compare::{
+    bus_calls, bus_lists, calls, least, lists, look_backs, plan_bytes, plan_checks, plans, scripts,
+    sent,
+};
 use std::env;
 use std::process::ExitCode;
 
@@ -19,6 +22,8 @@ fn main() -> ExitCode {
         sent::compare,
         plan_bytes::compare,
         look_backs::compare,
+        bus_calls::compare,
+        bus_lists::compare,
     ];
     for compare in parts {
         let part = compare(seed, times);

@@ -65,6 +65,7 @@ fn sound(random: &mut Random) -> Record {
         shift: random.number() as u16,
         fitted: random.byte(),
         answer_mark: random.byte() % 2,
+        command: random.byte() % 128,
     }
 }
 
@@ -102,7 +103,7 @@ pub fn spoil(random: &mut Random, row: &mut [Record]) {
         return;
     }
     let record = &mut row[random.below(row.len())];
-    match random.below(12) {
+    match random.below(13) {
         0 => record.global = byte_above(random, 15),
         1 => record.limit = byte_above(random, 7),
         2 => record.gpio = byte_above(random, 31),
@@ -113,7 +114,8 @@ pub fn spoil(random: &mut Random, row: &mut [Record]) {
         7 => record.s = byte_above(random, 1),
         8 => record.interrupt = byte_above(random, 1),
         9 => record.answer_mark = byte_above(random, 1),
-        10 => record.pins = above(random, 31, u32::MAX),
+        10 => record.command = byte_above(random, 127),
+        11 => record.pins = above(random, 31, u32::MAX),
         _ => record.blink = above(random, 3_999_999, u32::MAX),
     }
 }

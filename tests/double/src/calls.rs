@@ -173,6 +173,25 @@ pub fn named_driver(call: &Call) -> Option<usize> {
     }
 }
 
+/// The same call to another driver.
+pub fn to_driver(call: &Call, to: usize) -> Call {
+    let mut other = call.clone();
+    match &mut other {
+        Call::Access { .. } => {}
+        Call::Scan { driver, .. }
+        | Call::Pins { driver, .. }
+        | Call::Clocks { driver, .. }
+        | Call::Plane { driver, .. }
+        | Call::Segments { driver, .. }
+        | Call::Brightness { driver, .. }
+        | Call::Shown { driver }
+        | Call::Interrupt { driver }
+        | Call::AnswerMark { driver }
+        | Call::LookBack { driver, .. } => *driver = to,
+    }
+    other
+}
+
 /// An accepted call on the record of the driver it names; an access names none and does nothing here.
 pub fn serve(record: &mut Record, call: &Call) -> Vec<u8> {
     match call {

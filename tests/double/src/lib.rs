@@ -1,13 +1,15 @@
-//! A second double of a chain of MAX6954 LED drivers, written bit by bit for comparison.
+//! A second double of a chain of MAX6954 LED drivers and of a bus of MAX6955, written bit by bit for comparison.
 #![forbid(unsafe_code)]
 
 mod bits;
 mod blink;
 mod brightness;
+mod bus;
 mod calls;
 mod check;
 mod keys;
 mod lone;
+mod lone_bus;
 mod look_back;
 mod picture;
 mod plan_bytes;
@@ -20,9 +22,11 @@ mod search;
 mod segments;
 mod wire;
 
-pub use calls::{access, call, Call, Reply};
+pub use bus::{bus_call, Bus, BusCall, BusReply, Straps};
+pub use calls::{access, call, named_driver, Call, Reply};
 pub use check::{check, Checked};
 pub use lone::Lone;
+pub use lone_bus::{LonePart, Step};
 pub use picture::Picture;
 pub use plan_bytes::plan_bytes;
 pub use planner::{plan, Planned};

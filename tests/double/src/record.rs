@@ -2,7 +2,7 @@
 
 use crate::blink::CYCLE;
 
-/// One driver's registers, planes, key state, pin levels, blink count, shift word and answer mark.
+/// One driver's registers, planes, key state, pin levels, blink count, shift word, answer mark and command address.
 #[derive(Clone, Debug, PartialEq, Eq)]
 pub struct Record {
     /// 0x01 decode mode.
@@ -51,6 +51,8 @@ pub struct Record {
     pub shift: u16,
     /// 1 when the latest access loaded the shift word by a read.
     pub answer_mark: u8,
+    /// The two-wire bus's command address, 7 bits.
+    pub command: u8,
     /// Bit d set: a 7-segment pair where the digit type leaves 16 or 7 open.
     pub fitted: u8,
 }
@@ -86,11 +88,12 @@ impl Record {
             blink: 0,
             shift: 0,
             answer_mark: 0,
+            command: 0,
             fitted: 255,
         }
     }
 
-    /// Every field fits its register's width, the blink count is below 4,000,000 and the answer mark is 0 or 1.
+    /// Every field fits its width, and the blink count is below 4,000,000.
     pub fn sound(&self) -> bool {
         let single = [
             self.test,
@@ -107,5 +110,6 @@ impl Record {
             && single.iter().all(|bit| *bit <= 1)
             && self.pins <= 31
             && self.blink < CYCLE
+            && self.command <= 127
     }
 }

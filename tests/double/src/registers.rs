@@ -27,7 +27,7 @@ pub fn take(record: &mut Record) {
 }
 
 /// A write; the other addresses do nothing.
-fn write(record: &mut Record, address: u8, data: u8) {
+pub fn write(record: &mut Record, address: u8, data: u8) {
     let place = usize::from(address % 16);
     match address {
         0x01 => record.decode = data,
@@ -51,7 +51,7 @@ fn write(record: &mut Record, address: u8, data: u8) {
 }
 
 /// A read; no-op, 0x60 to 0x6F (Table 6) and unlisted addresses read 0.
-fn read(record: &mut Record, address: u8) -> u8 {
+pub fn read(record: &mut Record, address: u8) -> u8 {
     let place = usize::from(address % 16);
     match address {
         0x01 => record.decode,

@@ -1,0 +1,37 @@
+//! One row lent to both doubles, a guard record on either side.
+
+use crate::convert;
+use ratchetelm::Device;
+use second_double::Record;
+
+pub struct Lent {
+    library: Vec<Device>,
+    second: Vec<Record>,
+}
+
+impl Lent {
+    pub fn of(row: &[Record]) -> Lent {
+        let guard = [Record::power_up()];
+        let second = [&guard, row, &guard].concat();
+        Lent {
+            library: convert::devices(&second),
+            second,
+        }
+    }
+
+    /// The row by the second double, without the guards.
+    pub fn row(&self) -> &[Record] {
+        &self.second[1..self.second.len() - 1]
+    }
+
+    /// The row of each, to be called on.
+    pub fn rows(&mut self) -> (&mut [Device], &mut [Record]) {
+        let row = 1..self.second.len() - 1;
+        (&mut self.library[row.clone()], &mut self.second[row])
+    }
+
+    /// The records of each with the guards, the library's first.
+    pub fn records(&self) -> [Vec<Record>; 2] {
+        [convert::records(&self.library), self.second.clone()]
+    }
+}

@@ -3,7 +3,7 @@
 use Prim.Native.Nat.{ℕ, zero, suc, _-_, _*_, _≤_, _<_}
 use native.Mathlib.Nat.{le-of-suc-le-suc, not-suc-le-zero}
 use native.Mathlib.Omega.{arith}
-use mathlib.Core.Bool.{Bool, true, false}
+use mathlib.Core.Bool.{Bool, true, false, _&&_}
 use mathlib.Core.List.{List, [], _∷_, _++_, map, append-assoc}
 use mathlib.Core.Path.{_≡_, refl, sym, ap, _∙_}
 use lib.Dec.{ltb}
@@ -196,7 +196,12 @@ unfolding allSound
 cleared-sound [] s = refl
 cleared-sound (d ∷ ds) s =
     let r = and-left (soundOf d) (allSound ds) s in
-    rw (and-left (soundRegisters (d .registers)) (ltb (d .«answer_mark») 2) r, cleared-sound ds (and-right (soundOf d) (allSound ds) s))
+    let m = soundRegisters (d .registers) && ltb (d .«answer_mark») 2 in
+    rw (
+      and-left (soundRegisters (d .registers)) (ltb (d .«answer_mark») 2) (and-left m (ltb (d .command) 128) r),
+      and-right m (ltb (d .command) 128) r,
+      cleared-sound ds (and-right (soundOf d) (allSound ds) s),
+    )
 
 pub slipped-access : SlippedAccess
 slipped-access =

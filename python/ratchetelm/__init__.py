@@ -1,0 +1,39 @@
+"""The bench double of a chain of MAX6954 LED drivers, and of a bus of MAX6955, proved in Rattle.
+
+    >>> from ratchetelm import Chain, Refused
+    >>> chain = Chain(2)
+
+With 16 clocks for each driver the last driver's word goes first: driver 2 takes 0000, driver 1 takes 0303.
+
+    >>> chain.access(32, bytes.fromhex("00000303")).hex()
+    '00000000'
+    >>> chain.records[0].registers.controls.limit
+    3
+
+`send` does so with words, driver 1's first. Driver 1 is asked for its scan limit; what comes out is the word that it took before.
+
+    >>> [f"{word:04X}" for word in chain.send(0x8300, 0x0000)]
+    ['0303', '0000']
+
+The word that it holds now is an answer, and comes out one access later.
+
+    >>> chain.answer_mark(1)
+    True
+    >>> [f"{word:04X}" for word in chain.send(0x0000, 0x0000)]
+    ['8303', '0000']
+
+A call that can't be served raises Refused, with the lowest number that applies; then no record has changed.
+
+    >>> chain.scan(3)
+    Traceback (most recent call last):
+    ratchetelm.refused.Refused: 2: driver number not in 1..n
+
+The library is target/lib/libratchetelm.so, which `make lib` makes, or the file that RATCHETELM_LIBRARY names.
+"""
+
+from .chain import Brightness, Chain, Pin, Ruler
+from .records import Device
+from .refused import Refused
+from .two_wire import Bus, Byte
+
+__all__ = ["Brightness", "Bus", "Byte", "Chain", "Device", "Pin", "Refused", "Ruler"]

@@ -1,0 +1,83 @@
+"""The shared library with its calls, typed as include/ratchetelm.h has them, and the numbers that they take."""
+
+import ctypes
+import os
+import pathlib
+from ctypes import POINTER, c_size_t, c_uint8, c_uint16, c_uint32
+
+from .records import BusState, Device, Straps
+
+NAME = "RATCHETELM_LIBRARY"
+MADE = pathlib.Path(__file__).resolve().parents[2] / "target" / "lib" / "libratchetelm.so"
+
+
+def answer(*names, number=c_uint8):
+    """An answer of a call: its number, then these fields."""
+    fields = [("number", c_uint8)] + [name if isinstance(name, tuple) else (name, number) for name in names]
+    return type("Answer", (ctypes.Structure,), {"_fields_": fields})
+
+
+RECORDS, BYTES, WORDS = POINTER(Device), POINTER(c_uint8), POINTER(c_uint16)
+CHAIN = (RECORDS, c_size_t)
+LENT_BYTES, LENT_WORDS = (BYTES, c_size_t), (WORDS, c_size_t)
+BUS = (BusState, Straps)
+STATE = ("bus", BusState)
+
+# Each call: what it gives back, then what it takes.
+CALLS = {
+    "max6954_power_up": (Device,),
+    "max6954_access": (c_uint8, *CHAIN, c_size_t, *LENT_BYTES, *LENT_BYTES),
+    "max6954_scan": (c_uint8, *CHAIN, c_size_t, c_uint8, c_uint8, c_uint8, c_uint8),
+    "max6954_set_pins": (c_uint8, *CHAIN, c_size_t, c_uint32),
+    "max6954_add_clocks": (c_uint8, *CHAIN, c_size_t, c_uint32),
+    "max6954_segments": (answer(("pins", c_uint8 * 19)), *CHAIN, c_size_t, c_size_t, *LENT_WORDS, *LENT_WORDS),
+    "max6954_brightness": (answer("sixteenths", "ruler"), *CHAIN, c_size_t, c_size_t),
+    "max6954_shown": (answer("plane"), *CHAIN, c_size_t),
+    "max6954_interrupt": (answer("raised"), *CHAIN, c_size_t),
+    "max6954_answer_mark": (answer("mark"), *CHAIN, c_size_t),
+    "max6954_look_back": (answer("byte"), *CHAIN, c_size_t, c_size_t, c_size_t, *LENT_WORDS),
+    "max6954_plane_shown": (answer("plane"), *CHAIN, c_size_t, *LENT_BYTES, *LENT_BYTES, c_size_t, c_size_t),
+    "max6954_plan": (answer("accesses", number=c_size_t), *CHAIN, *LENT_BYTES, *LENT_WORDS),
+    "max6954_plan_check": (answer("accepted"), *CHAIN, *LENT_BYTES, *LENT_WORDS),
+    "max6955_start": (answer(STATE), *CHAIN, *BUS),
+    "max6955_stop": (answer(STATE), *CHAIN, *BUS),
+    "max6955_write": (answer(STATE, "acknowledged", "data"), *CHAIN, *BUS, c_uint8),
+    "max6955_read": (answer(STATE, "acknowledged", "data"), *CHAIN, *BUS),
+}
+
+
+def load():
+    """The library, each call with its types."""
+    path = os.environ.get(NAME, MADE)
+    try:
+        library = ctypes.CDLL(str(path))
+    except OSError as error:
+        raise ImportError(f"{error}; make lib makes it, and {NAME} may name another file") from None
+    for name, (gives, *takes) in CALLS.items():
+        call = getattr(library, name)
+        call.restype, call.argtypes = gives, takes
+    return library
+
+
+def number(value, bits, name):
+    """A number that fits so many bits: ctypes would cut a larger one down, and the call would serve another number."""
+    if not 0 <= value < 1 << bits:
+        raise OverflowError(f"{name} is {value}, which isn't a number of {bits} bits")
+    return value
+
+
+def place(value, name):
+    """A driver, digit, cathode, plane or number of clocks, as large as C has them."""
+    return number(value, 8 * ctypes.sizeof(c_size_t), name)
+
+
+def lent_bytes(values):
+    """Bytes to lend, and how many."""
+    values = bytes(values)
+    return (c_uint8 * len(values)).from_buffer_copy(values), len(values)
+
+
+def lent_words(values):
+    """Words of 16 bits to lend, and how many."""
+    values = [number(value, 16, "a word") for value in values]
+    return (c_uint16 * len(values))(*values), len(values)

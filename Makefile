@@ -2,7 +2,7 @@
 #               text, .hex is hex with comments, .bin is bytes. OPTIONS="--show --strict" are those of tools/run, whose --help has them
 # make plan     the fewest accesses from the picture of the script FROM=FILE to that of TO=FILE, as text; each is a sample where it isn't given
 # make test     the gate: everything is proved from nothing, every wrong version is tried, then our own tests run
-# make lib      the library for C, C++ and Rust, static and shared, with its header, in target/lib
+# make lib      the library for C, C++, Rust and Python, static and shared, with its header, in target/lib
 # make bench    the speed of the exported calls and of panel, beside plain C, C tuned by hand and the second double
 # make clean    removes target/, which has all that was built and proved
 # make help     says this

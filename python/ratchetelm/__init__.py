@@ -28,7 +28,7 @@ A call that can't be served raises Refused, with the lowest number that applies;
     Traceback (most recent call last):
     ratchetelm.refused.Refused: 2: driver number not in 1..n
 
-The library is target/lib/libratchetelm.so, which `make lib` makes, or the file that RATCHETELM_LIBRARY names.
+The library is target/lib/libratchetelm.so, which `make lib` makes, or the one in the folder that RATCHETELM_LIB names.
 """
 
 from .chain import Brightness, Chain, Pin, Ruler

@@ -10,7 +10,7 @@ from .refused import served
 
 C = library.load()
 
-WANTED_SIZE = 32
+MOST_CLOCKS = 4096
 MOST_ACCESSES = 32
 
 
@@ -61,7 +61,9 @@ class Chain:
 
     def access(self, clocks, sent):
         """Clocks through the chain; bits are packed first bit highest. Gives the answer bytes."""
-        room, size = lent_bytes(bytes((place(clocks, "clocks") + 7) // 8 if clocks <= 4096 else 0))
+        clocks = place(clocks, "clocks")
+        # More are refused, whatever the room.
+        room, size = lent_bytes(bytes((min(clocks, MOST_CLOCKS) + 7) // 8))
         served(self._call("max6954_access", clocks, *lent_bytes(sent), room, size))
         return bytes(room)
 

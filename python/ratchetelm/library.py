@@ -7,8 +7,8 @@ from ctypes import POINTER, c_size_t, c_uint8, c_uint16, c_uint32
 
 from .records import BusState, Device, Straps
 
-NAME = "RATCHETELM_LIBRARY"
-MADE = pathlib.Path(__file__).resolve().parents[2] / "target" / "lib" / "libratchetelm.so"
+NAME = "RATCHETELM_LIB"
+MADE = pathlib.Path(__file__).resolve().parents[2] / "target" / "lib"
 
 
 def answer(*names, number=c_uint8):
@@ -48,11 +48,11 @@ CALLS = {
 
 def load():
     """The library, each call with its types."""
-    path = os.environ.get(NAME, MADE)
+    path = pathlib.Path(os.environ.get(NAME, MADE)) / "libratchetelm.so"
     try:
         library = ctypes.CDLL(str(path))
     except OSError as error:
-        raise ImportError(f"{error}; make lib makes it, and {NAME} may name another file") from None
+        raise ImportError(f"{error}; make lib makes it, and {NAME} may name another folder") from None
     for name, (gives, *takes) in CALLS.items():
         call = getattr(library, name)
         call.restype, call.argtypes = gives, takes

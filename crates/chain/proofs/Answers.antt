@@ -1,4 +1,4 @@
--- The types of the answers, and those of the two-wire bus, for the walks of this crate.
+-- The types of the answers, for the walks of this crate.
 -- Assumes nothing.
 use Rattle.lent.proofs.Walk.{Data, rec}
 use Rattle.answers.proofs.ShownAnswer as H
@@ -17,14 +17,6 @@ use Rattle.planner.proofs.PlanAnswer as L
 use Rattle.planner.proofs.PlanAnswer.Laws as L′
 use Rattle.planner.proofs.PlanCheckAnswer as C
 use Rattle.planner.proofs.PlanCheckAnswer.Laws as C′
-use Rattle.bus.proofs.Bus as U
-use Rattle.bus.proofs.Bus.Laws as U′
-use Rattle.transfers.proofs.Straps as S
-use Rattle.transfers.proofs.Straps.Laws as S′
-use Rattle.transfers.proofs.BusAnswer as A
-use Rattle.transfers.proofs.BusAnswer.Laws as A′
-use Rattle.transfers.proofs.ByteAnswer as Y
-use Rattle.transfers.proofs.ByteAnswer.Laws as Y′
 
 abbrev pub segmentAnswer : Data
 segmentAnswer = rec P.the-type P′.the-laws P′.the-plain P′.the-copy
@@ -49,15 +41,3 @@ planAnswer = rec L.the-type L′.the-laws L′.the-plain L′.the-copy
 
 abbrev pub planCheckAnswer : Data
 planCheckAnswer = rec C.the-type C′.the-laws C′.the-plain C′.the-copy
-
-abbrev pub busState : Data
-busState = rec U.the-type U′.the-laws U′.the-plain U′.the-copy
-
-abbrev pub strapsGiven : Data
-strapsGiven = rec S.the-type S′.the-laws S′.the-plain S′.the-copy
-
-abbrev pub busAnswer : Data
-busAnswer = rec A.the-type A′.the-laws A′.the-plain A′.the-copy
-
-abbrev pub byteAnswer : Data
-byteAnswer = rec Y.the-type Y′.the-laws Y′.the-plain Y′.the-copy

@@ -2,5 +2,3 @@ pub mod Answers
 pub mod Steps
 pub mod Gives
 pub mod Asks
-pub mod Moves
-pub mod Bytes

@@ -1,27 +1,20 @@
 // The calls on a chain of MAX6954: a lent row of records, nearest the controller first. Drivers are counted from 1.
-// The calls max6955_.. are those of the two-wire bus, on a row of parts.
 ghost use mathlib.Core.Path.{_≡_};
 ghost use mathlib.Core.List.{[], _∷_};
 ghost use lib.ListN.{length};
 ghost use Rattle.device.specs.PowerUp.{powerUp};
 ghost use Rattle.calls.specs.Calls.{access as accessCall, give, ask, scan, levels as pinLevels, clocks as masterClocks, plane, planeShown, segments, brightness, shown, interrupt, answerMark, lookBack, askChain, plan, planCheck};
 ghost use Rattle.calls.specs.Outcome.{outcome};
-ghost use Rattle.bus.specs.BusCalls.{start, put, get, stop};
-ghost use Rattle.bus.specs.BusOutcome.{busOutcome};
 ghost use Rattle.redraw.specs.PlanBytes.{bytesNumber, bytesAfter};
 use answers::InterruptAnswer;
 use answers::MarkAnswer;
 use answers::ShownAnswer;
 use brightness::BrightnessAnswer;
-use bus::Bus;
 use device::Device;
 use display::SegmentAnswer;
 use look_back::LookBackAnswer;
 use planner::PlanAnswer;
 use planner::PlanCheckAnswer;
-use transfers::BusAnswer;
-use transfers::ByteAnswer;
-use transfers::Straps;
 
 // A driver at power-up.
 #[no_mangle]
@@ -303,63 +296,4 @@ pub extern "C" fn max6954_plan_bytes(n: usize, list: &[u16], access: usize, byte
     ensures { λ r. ⌜ (r ≡ bytesNumber n (length (now (list .entry))) access (length (now (bytes .entry)))) × (now (bytes .exit) ≡ bytesAfter n (now (list .entry)) access (now (bytes .entry))) ⌝ }
 {
     redraw::plan_bytes(n, list, access, bytes)
-}
-
-// A start on the two-wire bus: from every bus state the slave byte is awaited.
-#[no_mangle]
-pub extern "C" fn max6955_start(parts: &[Device], bus: Bus, straps: Straps) -> BusAnswer
-    ensures { λ r. ⌜ busOutcome (straps .addresses) start bus (now (parts .entry)) ≡ record { number = r .number; bus = r .bus; records = now (parts .entry); back = [] } ⌝ }
-{
-    let n = parts.len();
-    let early = lent::call_refusal(parts, 1, 0);
-    transfers::start_answer(early, n, bus, straps)
-}
-
-// A stop: from every bus state the bus is idle.
-#[no_mangle]
-pub extern "C" fn max6955_stop(parts: &[Device], bus: Bus, straps: Straps) -> BusAnswer
-    ensures { λ r. ⌜ busOutcome (straps .addresses) stop bus (now (parts .entry)) ≡ record { number = r .number; bus = r .bus; records = now (parts .entry); back = [] } ⌝ }
-{
-    let n = parts.len();
-    let early = lent::call_refusal(parts, 1, 0);
-    transfers::stop_answer(early, n, bus, straps)
-}
-
-// A byte given by the master: the slave byte, the command address or data.
-#[no_mangle]
-pub extern "C" fn max6955_write(
-    parts: &mut [Device],
-    bus: Bus,
-    straps: Straps,
-    byte: u8,
-) -> ByteAnswer
-    ensures { λ r. ⌜ busOutcome (straps .addresses) (put byte) bus (now (parts .entry)) ≡ record { number = r .number; bus = r .bus; records = now (parts .exit); back = r .acknowledged ∷ r .«data» ∷ [] } ⌝ }
-{
-    let n = parts.len();
-    let early = lent::call_refusal(parts, 1, 0);
-    let part = transfers::part_open(early, n, bus, straps);
-    if part == 0 {
-        return transfers::write_free(early, n, bus, straps, byte);
-    }
-    let at = part - 1;
-    let old = parts[at];
-    parts[at] = transfers::written(old, bus, byte);
-    transfers::write_open(old, bus, byte)
-}
-
-// A byte asked for by the master.
-#[no_mangle]
-pub extern "C" fn max6955_read(parts: &mut [Device], bus: Bus, straps: Straps) -> ByteAnswer
-    ensures { λ r. ⌜ busOutcome (straps .addresses) get bus (now (parts .entry)) ≡ record { number = r .number; bus = r .bus; records = now (parts .exit); back = r .acknowledged ∷ r .«data» ∷ [] } ⌝ }
-{
-    let n = parts.len();
-    let early = lent::call_refusal(parts, 1, 0);
-    let part = transfers::part_open(early, n, bus, straps);
-    if part == 0 {
-        return transfers::read_free(early, n, bus, straps);
-    }
-    let at = part - 1;
-    let old = parts[at];
-    parts[at] = transfers::read(old, bus);
-    transfers::read_open(old, bus)
 }

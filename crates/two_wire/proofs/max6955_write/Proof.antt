@@ -1,4 +1,4 @@
--- `chain::max6955_write` has the shape of `Bytes.antt`.
+-- `two_wire::max6955_write` has the shape of `Bytes.antt`.
 -- Assumes nothing.
 use mathlib.Core.List.{[], _∷_}
 use denote.Triple.Table.{cited}
@@ -19,10 +19,10 @@ use Rattle.transfers.proofs.written.Symbol as work-def
 use Rattle.transfers.proofs.written.Met as work-thm
 use Rattle.transfers.proofs.write_open.Symbol as answer-def
 use Rattle.transfers.proofs.write_open.Met as answer-thm
-use Rattle.chain.proofs.Bytes.{bytes-spec}
-use Rattle.chain.proofs.max6955_write.Key as key
-use Rattle.chain.proofs.max6955_write.Statement.{statement}
-use Rattle.chain.proofs.max6955_write.Code as code
+use Rattle.two_wire.proofs.Bytes.{bytes-spec}
+use Rattle.two_wire.proofs.max6955_write.Key as key
+use Rattle.two_wire.proofs.max6955_write.Statement.{statement}
+use Rattle.two_wire.proofs.max6955_write.Code as code
 
 pub max6955-write-spec : {M : Type 1} → statement M
 unfolding code.routine

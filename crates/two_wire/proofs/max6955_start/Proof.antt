@@ -1,4 +1,4 @@
--- `chain::max6955_start` has the shape of `Moves.antt`.
+-- `two_wire::max6955_start` has the shape of `Moves.antt`.
 -- Assumes nothing.
 use denote.Triple.Table.{cited}
 use Rattle.bus.specs.States.{slave, busOf}
@@ -8,10 +8,10 @@ use Rattle.lent.proofs.call_refusal.Symbol as number-def
 use Rattle.lent.proofs.call_refusal.Met as number-thm
 use Rattle.transfers.proofs.start_answer.Symbol as answer-def
 use Rattle.transfers.proofs.start_answer.Met as answer-thm
-use Rattle.chain.proofs.Moves.{moves-spec}
-use Rattle.chain.proofs.max6955_start.Key as key
-use Rattle.chain.proofs.max6955_start.Statement.{statement}
-use Rattle.chain.proofs.max6955_start.Code as code
+use Rattle.two_wire.proofs.Moves.{moves-spec}
+use Rattle.two_wire.proofs.max6955_start.Key as key
+use Rattle.two_wire.proofs.max6955_start.Statement.{statement}
+use Rattle.two_wire.proofs.max6955_start.Code as code
 
 pub max6955-start-spec : {M : Type 1} → statement M
 unfolding code.routine

@@ -1,4 +1,4 @@
--- `chain::max6955_read` has the shape of `Bytes.antt`.
+-- `two_wire::max6955_read` has the shape of `Bytes.antt`.
 -- Assumes nothing.
 use mathlib.Core.List.{[], _∷_}
 use denote.Triple.Table.{cited}
@@ -17,10 +17,10 @@ use Rattle.transfers.proofs.read.Symbol as work-def
 use Rattle.transfers.proofs.read.Met as work-thm
 use Rattle.transfers.proofs.read_open.Symbol as answer-def
 use Rattle.transfers.proofs.read_open.Met as answer-thm
-use Rattle.chain.proofs.Bytes.{bytes-spec}
-use Rattle.chain.proofs.max6955_read.Key as key
-use Rattle.chain.proofs.max6955_read.Statement.{statement}
-use Rattle.chain.proofs.max6955_read.Code as code
+use Rattle.two_wire.proofs.Bytes.{bytes-spec}
+use Rattle.two_wire.proofs.max6955_read.Key as key
+use Rattle.two_wire.proofs.max6955_read.Statement.{statement}
+use Rattle.two_wire.proofs.max6955_read.Code as code
 
 pub max6955-read-spec : {M : Type 1} → statement M
 unfolding code.routine

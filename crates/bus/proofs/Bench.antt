@@ -1,14 +1,26 @@
--- The worked examples, by one computation over the table.
+-- The worked examples, by one computation over each table.
 -- Assumes nothing.
 use mathlib.Core.Path.{refl}
+use Rattle.ground.specs.Lists.{Agree}
 use Rattle.calls.specs.CallRefusals.{allSound}
 use Rattle.bus.specs.Straps.{placeOf, distinct, sevenBits}
 use Rattle.device.specs.TwoWire.{commanded, received, sentData, sent}
 use Rattle.bus.specs.BusOutcome.{number}
 use Rattle.bus.specs.BusOutcome.{busAfter, partsAfter, reply}
 use Rattle.bus.specs.BusLists.{busAll, partsAll, replies}
-use Rattle.bus.specs.BusExamples.{BusExamples}
+use Rattle.bus.specs.BusExamples.{rows, numberRows, refusedRows, BusExamples}
+
+bench-examples : Agree rows
+unfolding allSound placeOf distinct sevenBits commanded received sentData sent number busAfter partsAfter reply busAll partsAll replies
+bench-examples = refl
+
+bench-numbers : Agree numberRows
+unfolding allSound placeOf distinct sevenBits commanded received sentData sent number busAfter partsAfter reply busAll partsAll replies
+bench-numbers = refl
+
+bench-refused : Agree refusedRows
+unfolding allSound placeOf distinct sevenBits commanded received sentData sent number busAfter partsAfter reply busAll partsAll replies
+bench-refused = refl
 
 pub bench : BusExamples
-unfolding allSound placeOf distinct sevenBits commanded received sentData sent number busAfter partsAfter reply busAll partsAll replies
-bench = refl
+bench = record { examples = bench-examples; numbers = bench-numbers; refused = bench-refused }

@@ -1,4 +1,5 @@
--- Believed: document 02, request 3: exactly which accepted bytes are acknowledged; the others read 255 and have no effect.
+-- Believed: document 02, request 3: "Acknowledged are exactly, of accepted bytes, a matched slave byte and those of a matched transfer in its direction; the others read 255
+-- and have no effect, but an unmatched slave byte makes the bus await a start".
 -- Assumes nothing.
 use Prim.Native.Nat.{ℕ, _/_, _≤_, _<_}
 use mathlib.Core.List.{List, [], _∷_}
@@ -41,5 +42,6 @@ pub record Byte (σ : List ℕ) (b : Bus) (ds : List Device) : Type 0 where
   pub asked-none : number σ get b ds ≡ 0 → b .part ≡ 0 → Nobody σ get b ds b
   pub asked-in-write : number σ get b ds ≡ 0 → 1 ≤ b .part → b .phase < 2 → Nobody σ get b ds b
 
+-- on every bus
 abbrev pub Acknowledged : Type 0
 Acknowledged = (σ : List ℕ) (b : Bus) (ds : List Device) → length σ ≡ 16 → Byte σ b ds

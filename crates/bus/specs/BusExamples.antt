@@ -152,8 +152,13 @@ rows =
           ∷ [],
       0x04 ∷ 0x11 ∷ 0 ∷ 1 ∷ 0x04 ∷ 0x08 ∷ [],
     )
+    ∷ []
+
+-- the numbers of the four calls
+abbrev pub numberRows : List (List ℕ × List ℕ)
+numberRows =
     -- 11: numbers: 10 two parts with one address, also above 127; 11 an address above 127
-    ∷ (numbersOf (straps (0x60 ∷ 0x60 ∷ [])) (busOf idle) (freshChain 2), 10 ∷ 10 ∷ 10 ∷ 10 ∷ [])
+    (numbersOf (straps (0x60 ∷ 0x60 ∷ [])) (busOf idle) (freshChain 2), 10 ∷ 10 ∷ 10 ∷ 10 ∷ [])
     ∷ (numbersOf (straps (0xC8 ∷ 0xC8 ∷ [])) (busOf idle) (freshChain 2), 10 ∷ 10 ∷ 10 ∷ 10 ∷ [])
     ∷ (numbersOf (straps (0x60 ∷ 0xE0 ∷ [])) (busOf idle) (freshChain 2), 11 ∷ 11 ∷ 11 ∷ 11 ∷ [])
     ∷ (numbersOf (straps (0x60 ∷ 0x61 ∷ [])) (record { part = 3; phase = 1 }) (freshChain 2), 7 ∷ 7 ∷ 7 ∷ 7 ∷ [])
@@ -166,8 +171,13 @@ rows =
     ∷ (numbersOf (straps (0x60 ∷ 0x60 ∷ [])) (record { part = 3; phase = 1 }) (freshChain 2), 7 ∷ 7 ∷ 7 ∷ 7 ∷ [])
     ∷ (numbersOf one (busOf idle) (withCommand powerUp 127 ∷ []), 0 ∷ 0 ∷ 0 ∷ 0 ∷ [])
     ∷ (numbersOf one (busOf idle) (withCommand powerUp 128 ∷ []), 7 ∷ 7 ∷ 7 ∷ 7 ∷ [])
+    ∷ []
+
+-- refused calls
+abbrev pub refusedRows : List (List ℕ × List ℕ)
+refusedRows =
     -- 12: refused, a byte answers 0 and 0, the bus state is as given and no record changes
-    ∷ (
+    (
       answers (replies (straps (0x60 ∷ 0x60 ∷ [])) (put 0x05 ∷ get ∷ start ∷ []) (record { part = 1; phase = 0 }) (freshChain 2)),
       0 ∷ 0 ∷ [],
     )
@@ -181,5 +191,7 @@ rows =
     ∷ []
 
 -- the two agree in every row
-abbrev pub BusExamples : Type 0
-BusExamples = Agree rows
+pub record BusExamples : Type 0 where
+  pub examples : Agree rows
+  pub numbers : Agree numberRows
+  pub refused : Agree refusedRows

@@ -23,19 +23,21 @@ abbrev pub stored : Registers → ℕ → List ℕ → Registers
 stored x a [] = x
 stored x a (v ∷ vs) = stored (written x (writtenAt (min a 127)) v) (a + 1) vs
 
--- what m bytes read from address a on leave, and give
+-- what m bytes read from address a on leave
 abbrev pub readLeft : Registers → ℕ → ℕ → Registers
 readLeft x a zero = x
 readLeft x a (suc m) = readLeft (afterRead x (readAt (min a 127))) (a + 1) m
 
+-- and what they give
 abbrev pub readData : Registers → ℕ → ℕ → List ℕ
 readData x a zero = []
 readData x a (suc m) = dataOf x (readAt (min a 127)) ∷ readData (afterRead x (readAt (min a 127))) (a + 1) m
 
--- part k's slave byte, low for a write and high for a read; the command byte and data; bytes asked for
+-- a whole write of part k: its slave byte, low; the command byte and data
 abbrev pub writeCalls : List ℕ → ℕ → ℕ → List ℕ → List BusCall
 writeCalls σ k a vs = start ∷ put (2 * strapOf σ k) ∷ put a ∷ map put vs ++ stop ∷ []
 
+-- a whole read: its slave byte, high; bytes asked for
 abbrev pub readCalls : List ℕ → ℕ → ℕ → List BusCall
 readCalls σ k m = start ∷ put (2 * strapOf σ k + 1) ∷ replicate m get ++ stop ∷ []
 
@@ -62,6 +64,7 @@ pub record Transaction (σ : List ℕ) (b : Bus) (ds : List Device) (k : ℕ) : 
       (withCommand (withRegisters (recordOf ds k) (readLeft (recordOf ds k .registers) (recordOf ds k .command) m)) (min (recordOf ds k .command + m) 127)))
       ([] ∷ (1 ∷ 0 ∷ []) ∷ map (λ (v : ℕ). 1 ∷ v ∷ []) (readData (recordOf ds k .registers) (recordOf ds k .command) m) ++ [] ∷ [])
 
+-- of every part on every bus
 abbrev pub Transactions : Type 0
 Transactions =
     (σ : List ℕ) (b : Bus) (ds : List Device)

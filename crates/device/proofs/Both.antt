@@ -64,15 +64,26 @@ next-more a h = rw (lt-ltb a 127 h)
 pub next-last : (a : ℕ) → a ≡ 127 → nextAddress a ≡ 127
 next-last a e = rw e
 
+commanded-to : (d : Device) (v : ℕ) → commanded d v .command ≡ v % 128
+unfolding commanded
+commanded-to d v = refl
+
+given-steps : (d : Device) (v : ℕ) → received d v .command ≡ nextAddress (d .command)
+unfolding received
+given-steps d v = refl
+
+asked-steps : (d : Device) → sent d .command ≡ nextAddress (d .command)
+unfolding sent
+asked-steps d = refl
+
 address-of : (d : Device) → Address d
-unfolding commanded received sent
 address-of d =
     record {
-      by-command = λ v. refl;
-      by-given = λ v. next-more (d .command);
-      by-asked = next-more (d .command);
-      last-given = λ v. next-last (d .command);
-      last-asked = next-last (d .command);
+      by-command = commanded-to d;
+      by-given = λ v h. given-steps d v ∙ next-more (d .command) h;
+      by-asked = λ h. asked-steps d ∙ next-more (d .command) h;
+      last-given = λ v e. given-steps d v ∙ next-last (d .command) e;
+      last-asked = λ e. asked-steps d ∙ next-last (d .command) e;
       by-word = word-address d;
       by-scan = λ a b c e. refl;
       by-pins = λ levels. refl;

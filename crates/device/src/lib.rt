@@ -212,8 +212,8 @@ impl Device {
         let a = self.command;
         let old = self.registers;
         let new = old.read(words::read_at(a));
-        let after = self.with_registers(new);
-        after.with_command(next_address(a))
+        let left = self.with_registers(new);
+        left.with_command(next_address(a))
     }
 
     // The plane shown.

@@ -36,10 +36,11 @@ moved k b left = record { number = k; bus = if (eqb k 0) left b }
 abbrev pub partOpen : ℕ → ℕ → Bus → List ℕ → ℕ
 partOpen early n b σ = if (eqb (refusalFrom early n b σ) 0) (b .part) 0
 
--- the answer to a byte that is served, and to one that is refused
+-- the answer to a byte that is served
 abbrev pub byteAnswer : Bus → List ℕ → ByteAnswer
 byteAnswer b back = record { number = 0; bus = b; acknowledged = getD back 0 0; «data» = getD back 1 0 }
 
+-- and to one that is refused
 abbrev pub refusedByte : ℕ → Bus → ByteAnswer
 refusedByte k b = record { number = k; bus = b; acknowledged = 0; «data» = 0 }
 

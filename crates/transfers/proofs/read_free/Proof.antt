@@ -4,12 +4,11 @@ use Rattle.ground.proofs.Tests.{tests}
 use Rattle.transfers.proofs.read_free.Statement.{statement}
 use Rattle.transfers.proofs.read_free.Tie as tie
 
+returns : tie.Need-returns
+returns c = simp (c .refused .ensures, ← c .before .before .refusal .ensures) (search tests)
+
+returns-2 : tie.Need-returns-2
+returns-2 c = simp (c .answered .ensures, ← c .before .before .refusal .ensures) (search tests)
+
 pub read-free-spec : {M : Type 1} → statement M
-read-free-spec =
-    tie.close
-    (tie.spec
-    (λ c κs. search needs)
-    (λ c κs. search needs)
-    (λ c. simp (c .refused .ensures, ← c .before .before .refusal .ensures) (search tests))
-    (λ c κs. search needs)
-    (λ c. simp (c .answered .ensures, ← c .before .before .refusal .ensures) (search tests)))
+read-free-spec = tie.close (tie.spec (λ c κs. search needs) (λ c κs. search needs) returns (λ c κs. search needs) returns-2)

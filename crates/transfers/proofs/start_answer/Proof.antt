@@ -3,10 +3,8 @@ use borrow.Author.Needs.{needs}
 use Rattle.transfers.proofs.start_answer.Statement.{statement}
 use Rattle.transfers.proofs.start_answer.Tie as tie
 
+returns : tie.Need-returns
+returns c = simp (c .before .refusal .ensures, c .moved .ensures)
+
 pub start-answer-spec : {M : Type 1} → statement M
-start-answer-spec =
-    tie.close
-    (tie.spec
-    (λ c κs. search needs)
-    (λ c κs. search needs)
-    (λ c. simp (c .before .refusal .ensures, c .moved .ensures)))
+start-answer-spec = tie.close (tie.spec (λ c κs. search needs) (λ c κs. search needs) returns)

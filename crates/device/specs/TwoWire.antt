@@ -8,7 +8,7 @@ use Rattle.registers.specs.Registers.{written, dataOf, afterRead}
 use Rattle.device.specs.Record.{withRegisters, withCommand}
 use Rattle.device.specs.declared.Device.{Device}
 
--- Table 6 of 001: the address autoincrements after a byte read or written, and remains at 0x7F; 0x0D and 0x0E step too (DECISIONS 97)
+-- Table 6 of 001: the address autoincrements after a byte read or written, and remains at 0x7F; 0x0D and 0x0E step too (DECISIONS 92)
 abbrev pub nextAddress : ℕ → ℕ
 nextAddress a = if (ltb a 127) (a + 1) 127
 

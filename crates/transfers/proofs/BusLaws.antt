@@ -1,20 +1,21 @@
 -- The outcome of a start, a byte or a stop on lent records, from the number that a pass over them gives.
---     number-from          the number
---     moves                a start's and a stop's outcome
---     Served               what a byte tells that reaches an open transfer
---     write-free, write-open, read-free, read-open         a byte's outcome: where no transfer is reached, and where one is
+--     movedTo, answeredTo      an answer, with the records that are left, as an outcome
+--     foundFrom                the number, as it is found
+--     starts, stops            a start's and a stop's outcome
+--     Reached, reached         a byte that reaches an open transfer
+--     write-free, write-open, read-free, read-open         a byte's outcome: where it reaches none, and where it reaches one
 -- Assumes nothing.
 use Prim.Native.Nat.{ℕ, zero, suc, _-_, _≤_, _<_}
 use native.Mathlib.Omega.{arith}
 use mathlib.Core.Bool.{Bool, true, false, _&&_}
 use mathlib.Core.List.{List, [], _∷_}
-use mathlib.Core.Path.{_≡_, refl, sym, ap, _∙_}
+use mathlib.Core.Path.{_≡_, refl, ap, _∙_}
 use lib.Dec.{eqb, leb, ltb}
 use lib.ListN.{length, getD, set, take}
-use borrow.Author.Tests.{eqb-true, eqb-false, eq-eqb, ne-eqb, le-leb, leb-true, ltb-true}
+use borrow.Author.Tests.{eqb-true, le-leb, leb-true, ltb-true}
 use Rattle.ground.specs.Choice.{if}
 use Rattle.ground.proofs.Truth.{and-left, and-right, passed}
-use Rattle.refusals.specs.Refusals.{chainRefusal, driverRefusal, soundRefusal, clashRefusal, addressRefusal, firstOf}
+use Rattle.refusals.specs.Refusals.{driverRefusal, soundRefusal, clashRefusal, addressRefusal, firstOf}
 use Rattle.refusals.proofs.RefusalLaws.{first-zero}
 use Rattle.device.specs.PowerUp.{powerUp}
 use Rattle.device.specs.declared.Device.{Device}
@@ -22,17 +23,16 @@ use Rattle.calls.specs.CallRefusals.{allSound}
 use Rattle.bus.specs.declared.Bus.{Bus}
 use Rattle.bus.specs.Straps.{matched, distinct, sevenBits}
 use Rattle.bus.specs.States.{Use, command, writing, reading, State, idle, slave, unmatched, transfer, freeAt, useAt, stateOf, busOf, soundBus}
-use Rattle.bus.specs.BusCalls.{BusCall, start, put, get, stop}
+use Rattle.bus.specs.BusCalls.{start, put, get, stop}
 use Rattle.bus.specs.BusRefusals.{wireRefusal}
 use Rattle.bus.specs.BusServed.{given, asked, served, nobody, putReply, askedReply, givenBack}
 use Rattle.bus.specs.BusOutcome.{number, busAfter, partsAfter, reply, BusOutcome, busOutcome}
 use Rattle.bus.proofs.Bytes.{state-part, state-free, bus-state}
 use Rattle.pass.specs.Found.{callRefusal}
-use Rattle.transfers.specs.Transfers.{refusalFrom, moved, partOpen, byteAnswer, putAnswer, writeFree, readFree, readOpen}
+use Rattle.transfers.specs.Transfers.{refusalFrom, moved, partOpen, putAnswer, writeFree, readFree, readOpen}
 use Rattle.transfers.specs.declared.BusAnswer.{BusAnswer}
 use Rattle.transfers.specs.declared.ByteAnswer.{ByteAnswer}
 
--- an answer, with the records that are left, as an outcome
 abbrev pub movedTo : BusAnswer → List Device → BusOutcome
 movedTo r ds = record { number = r .number; bus = r .bus; records = ds; back = [] }
 

@@ -4,14 +4,14 @@ use Prim.Native.Nat.{ℕ, _≤_, _<_}
 use native.Mathlib.Omega.{arith}
 use mathlib.Core.Bool.{Bool, true, false}
 use mathlib.Core.List.{List, [], _∷_}
-use mathlib.Core.Path.{_≡_, refl, sym, ap, _∙_}
-use lib.Dec.{eqb, leb, ltb}
+use mathlib.Core.Path.{_≡_, refl, sym, _∙_}
+use lib.Dec.{eqb, ltb}
 use lib.ListN.{length, take}
 use lib.Seq.{take-all}
 use borrow.Author.Tests.{eq-eqb, ne-eqb, lt-ltb, le-ltb, le-leb, lt-leb, ltb-false}
 use Rattle.ground.specs.Choice.{if, odd}
 use Rattle.bus.specs.declared.Bus.{Bus}
-use Rattle.bus.specs.Straps.{matched, placeOf, distinct, sevenBits}
+use Rattle.bus.specs.Straps.{matched, distinct, sevenBits}
 use Rattle.bus.specs.States.{command, reading, transfer, busOf}
 use Rattle.bus.specs.BusServed.{opened, slaveReply}
 use Rattle.bus.proofs.Bytes.{slave-taken}

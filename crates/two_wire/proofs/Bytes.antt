@@ -8,8 +8,7 @@
 use Prim.Native.Nat.{suc, _≤_}
 use native.Mathlib.Omega.{arith}
 use mathlib.Core.List.{_++_}
-use mathlib.Core.Bool.{not}
-use lib.Dec.{eqb, T as Holds, eqb→eq}
+use lib.Dec.{eqb, eqb→eq}
 use lib.ListN.{length-set}
 use mir.Syntax.{Name, Fn, Local, Ty, local, valueLocal, tyRef, imm, mut, erased, place, field, deref, seq, assign, call, cond, skip, return, copy, int, rvOpd, op2, sub as minus, mul, eq, offset, unsigned, aggregate, addrOf}
 use prog.Model.{Model}

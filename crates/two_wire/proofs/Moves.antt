@@ -17,7 +17,7 @@ use denote.Signature.{shrSliceOf, typesAt}
 use denote.Triple.Clauses.{Ended, Clauses, closing}
 use denote.Triple.End.{all}
 use denote.Triple.Walked.{stay-dropped, goes-dropped}
-use Rattle.lent.proofs.Logic.{_≡_, refl, ℕ, List, [], _∷_, lit<, length, URA, named, w8, w64, SProp, emp, id⊢, via, fst∗, Lft, Share, ftrue, flft, Memory, Routine, Heap, Tables, Atoms, Fun, fact, givenOf, tables, tablesOf, Given, ‵, _⊛_, _$_, _∵_, !, qed, move, drop, split, join, fsplit, fjoin, suffices, frame, done, whole, sub, look-in, look, init, stop, fld, from, load, lit, of-opd, and-then, no-more, assigns, land, returns, enter, alloc1, alloc0, params1, pass1, pass0, free0, fmOf, owns, Is, RefT, ShrSlice, slice-vals, shr-slice-tells, plain, nothing, owned, Bound, tripleOf, Contract, Triple, says, Stays, ends-at, yes}
+use Rattle.lent.proofs.Logic.{_≡_, refl, ℕ, List, [], _∷_, lit<, length, URA, named, w8, w64, SProp, emp, id⊢, via, fst∗, Lft, Share, ftrue, flft, Memory, Routine, Heap, Tables, Atoms, Fun, fact, givenOf, tables, tablesOf, Given, ‵, _⊛_, _$_, _∵_, !, qed, move, drop, fsplit, fjoin, suffices, frame, done, whole, sub, look-in, look, init, stop, fld, from, load, lit, of-opd, and-then, no-more, assigns, land, returns, enter, alloc1, alloc0, params1, pass1, pass0, free0, fmOf, owns, Is, RefT, ShrSlice, slice-vals, shr-slice-tells, plain, nothing, owned, Bound, tripleOf, Contract, Triple, says, Stays, ends-at, yes}
 use Rattle.device.specs.declared.Device.{Device}
 use Rattle.bus.specs.declared.Bus.{Bus}
 use Rattle.bus.specs.BusCalls.{BusCall}

@@ -1,6 +1,6 @@
 -- `two_wire::max6955_read` has the shape of `Bytes.antt`.
 -- Assumes nothing.
-use mathlib.Core.List.{[], _∷_}
+use mathlib.Core.List.{[]}
 use denote.Triple.Table.{cited}
 use Rattle.bus.specs.States.{useAt}
 use Rattle.bus.specs.BusCalls.{get}

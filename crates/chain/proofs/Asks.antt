@@ -39,7 +39,7 @@ use Rattle.calls.specs.Outcome.{outcome, Outcome}
 use Rattle.pass.specs.Found.{callRefusal}
 use Rattle.pass.proofs.FoundLaws.{in-range, own-zero, ask-served, ask-refused}
 use Rattle.lent.proofs.Records.{size, byte, device, recordBytes}
-use Rattle.lent.proofs.Walk.{Walk, lands-known, leave, leave-room, forks-to, proves}
+use Rattle.lent.proofs.Walk.{Walk, lands-known, leave, leave-room, forks, proves}
 use Rattle.lent.proofs.Params.{Kind, held, inner, outer, inners, outers, type, Of, Seen, seen, seens, values, Args, sent, back, sent-back, sents, spelled, told, machine, Good, stays, goes, ends, fits, Had, has, typed-back, comes, sends, doubled, locals-of, operands, after, env, spot-after, found, alloc-all, pass-all, leave-all, opds-all, FnOf, calls-kinds}
 use Rattle.chain.proofs.Steps.{CallRefusal, numbers}
 use Rattle.lent.proofs.call_refusal.Symbol as number-def
@@ -156,7 +156,7 @@ module _ (own refused work : Name) (k : ℕ) (Ks : List (Kind k)) (R : Kind k) (
         (and-then ! (load ! (from ! (stop !)) (look ! 21 refl)) (and-then ! (load ! (from ! (stop !)) (look ! 19 refl)) (and-then ! (load ! (found ! (spot 0) (stop !)) (look ! 17 refl)) (no-more !)))) (λ is-nr wt-nr. land ! (found ! (spot 1) (stop !)) (init ! 15 refl wt-nr) $
         -- [the slice's token; the other tokens; the parameters; what the callee asks of them; the slice; the seven locals, from 5; …; _2 at 19; _1 at 21; _0 at 23]
         assigns ! (bin ! (load ! (found ! (spot 1) (stop !)) (look ! 15 refl)) (lit ! tt) tt) (found ! (spot 3) (stop !)) (init ! 11 refl (tt, tt)) $
-        forks-to ! (λ (a : Answer) (l : List (Item 𝓤)). put 𝓤 H A 23 (‵ (fat fullShare (type R) l₀ 0 (a .0))) (put 𝓤 H A 4 (‵ ftrue) (put 𝓤 H A 3 (‵ (typeAt (inner R) (κs .1) .own (a .1 .0) (a .0 ∷ []))) l))) (load ! (found ! (spot 3) (stop !)) (look ! 11 refl)) (λ Q end no.
+        forks ! (λ (a : Answer) (l : List (Item 𝓤)). put 𝓤 H A 23 (‵ (fat fullShare (type R) l₀ 0 (a .0))) (put 𝓤 H A 4 (‵ ftrue) (put 𝓤 H A 3 (‵ (typeAt (inner R) (κs .1) .own (a .1 .0) (a .0 ∷ []))) l))) (load ! (found ! (spot 3) (stop !)) (look ! 11 refl)) (λ Q end no.
         move ! (4 ∷ []) $ drop ! $ nothing ! $ move ! (4 ∷ []) $ owned ! (byte .row) (Is (byte .row)) (byte .makes 𝓤 H A W) nr (byte .val nr ∷ []) is-nr $ fjoin ! $ move ! (0 ∷ 3 ∷ 4 ∷ []) $
         -- [what refused asks; the other tokens; the parameters; true; the slice's token; the seven locals, from 5; ..]
         calls-kinds ! (fmOf 𝓤 H (W .laws) 𝓣) (held byte ∷ Ks) R ψ-refused known-refused (κs .1) (qs .1) (nr, sents κs Ks xs)

@@ -1,14 +1,13 @@
--- A list given by its elements: read, and filled from the front.
+-- A list given by its elements.
 -- Assumes nothing.
-use Prim.Native.Nat.{ℕ, zero, suc, _+_, _<_}
+use Prim.Native.Nat.{ℕ, zero, suc, _<_}
 use native.Mathlib.Nat.{not-suc-le-zero}
-use native.Mathlib.Numerals.{add-one}
 use native.Mathlib.Omega.{arith}
 use native.Mathlib.Decide.{decLt}
-use mathlib.Core.List.{List, [], _∷_, _++_, append-assoc}
+use mathlib.Core.List.{List, [], _∷_, _++_}
 use mathlib.Core.Path.{_≡_, refl, ap, _∙_}
-use lib.ListN.{length, drop, set, getD, length-append, List·getD-append}
-use lib.Seq.{drop-cons, set-at, getD-at}
+use lib.ListN.{length, getD, length-append, List·getD-append}
+use lib.Seq.{getD-at}
 use Rattle.ground.specs.Lists.{tabulate}
 
 pub length-tabulate : {A : Type 0} (n : ℕ) (f : ℕ → A) → length (tabulate n f) ≡ n
@@ -33,13 +32,3 @@ pub tabulate-ext : {A : Type 0} (n : ℕ) (f g : ℕ → A) → ((k : ℕ) → k
 unfolding tabulate
 tabulate-ext zero f g h = refl
 tabulate-ext (suc n) f g h = rw (tabulate-ext n f g (λ k l. h k (omega arith)), h n (omega arith))
-
--- a loop that fills a list from the front, before its first turn and at each
-pub tabulate-none : {A : Type 0} (f : ℕ → A) (d : List A) → d ≡ tabulate 0 f ++ drop 0 d
-unfolding tabulate
-tabulate-none f d = refl
-
-pub tabulate-more : (n : ℕ) (f : ℕ → ℕ) (d : List ℕ) → n < length d → set (tabulate n f ++ drop n d) n (f n) ≡ tabulate (n + 1) f ++ drop (n + 1) d
-unfolding tabulate
-tabulate-more n f d h =
-    rw (drop-cons d n 0, set-at _ _ _ _ n (length-tabulate n f), add-one, append-assoc)

@@ -57,7 +57,7 @@ touch-comm true false l i j x y h = refl
 touch-comm false true l i j x y h = refl
 touch-comm false false l i j x y h = refl
 
-either-order : (d : Device) (w v : ℕ) → digitWrite w ≡ true → digitWrite v ≡ true → (digitOf w ≡ digitOf v → ⊥)
+pub either-order : (d : Device) (w v : ℕ) → digitWrite w ≡ true → digitWrite v ≡ true → (digitOf w ≡ digitOf v → ⊥)
     → registersAfter d (w ∷ v ∷ []) ≡ registersAfter d (v ∷ w ∷ [])
 either-order d w v g h ne =
     let p = d .registers .planes in
@@ -103,7 +103,7 @@ module _ (d : Device) (k v : ℕ) (hk : k < 16) (hv : v < 256) where
   unfolding Set
   by-two-turned = after-writes d (put1 k v) (put0 k v) is1 is0 ∙ rw (row0 .0, row0 .1, row0 .2, row1 .0, row1 .1, row1 .2)
 
-  both-planes : registersAfter d (putBoth k v ∷ []) ≡ registersAfter d (put0 k v ∷ put1 k v ∷ [])
+  pub both-planes : registersAfter d (putBoth k v ∷ []) ≡ registersAfter d (put0 k v ∷ put1 k v ∷ [])
   unfolding Set
   both-planes = by-both ∙ sym by-two
 
@@ -143,7 +143,7 @@ clear-after d x w g e h =
     ∙ forgets (d .registers) (c .0) (w % 256) h
     ∙ sym (configures d w e)
 
-clear-alone : (d : Device) (ws : List ℕ) (w : ℕ) → every drawing ws ≡ true → clearing w ≡ true → registersAfter d (ws ++ w ∷ []) ≡ registersAfter d (w ∷ [])
+pub clear-alone : (d : Device) (ws : List ℕ) (w : ℕ) → every drawing ws ≡ true → clearing w ≡ true → registersAfter d (ws ++ w ∷ []) ≡ registersAfter d (w ∷ [])
 unfolding every
 clear-alone d [] w g h = refl
 clear-alone d (x ∷ ws) w g h =

@@ -23,7 +23,7 @@ use Rattle.calls.specs.Isolation.{accepted, ownWord, loneStep, lone, AllFull}
 use Rattle.calls.proofs.Alone.{isolated}
 use Rattle.laws.specs.DriverLaws.{registersAfter, digitOf, clearing}
 use Rattle.laws.specs.ChainLaws.{accessesFor, allAccepted, registersAt, Apart, ChainLaws}
-use Rattle.laws.proofs.Laws.{driver-laws, waits}
+use Rattle.laws.proofs.Laws.{either-order, both-planes, waits, clear-alone}
 
 all-full : (n : ℕ) (room : List ℕ) (sents : List (List ℕ)) → AllFull n (accessesFor n room sents)
 unfolding AllFull
@@ -52,7 +52,7 @@ own-words ds room sents s a i h g =
 apart : (d : Device) (w v : ℕ) → Apart w v → registersAfter d (w ∷ v ∷ []) ≡ registersAfter d (v ∷ w ∷ [])
 apart d w v a =
     or-cases (digitWrite w) (eqb w 0) (a .first)
-    (λ g. or-cases (digitWrite v) (eqb v 0) (a .second) (λ h. driver-laws .either-order d w v g h (a .digits g h)) (λ e. rw (eqb-true v 0 e) (waits d w g)))
+    (λ g. or-cases (digitWrite v) (eqb v 0) (a .second) (λ h. either-order d w v g h (a .digits g h)) (λ e. rw (eqb-true v 0 e) (waits d w g)))
     (λ z. or-cases (digitWrite v) (eqb v 0) (a .second) (λ h. rw (eqb-true w 0 z) (sym (waits d v h))) (λ e. rw (eqb-true w 0 z, eqb-true v 0 e)))
 
 -- accepted in another order, or some of them
@@ -92,13 +92,13 @@ chain-laws =
           let t = accepted-first n room both (first ∷ second ∷ []) h in
           own-words ds room (both ∷ []) s (t .0) i l g
           ∙ ap (λ (w : ℕ). registersAfter (recordOf ds i) (w ∷ [])) e
-          ∙ driver-laws .both-planes (recordOf ds i) k v hk hv
+          ∙ both-planes (recordOf ds i) k v hk hv
           ∙ sym (own-words ds room (first ∷ second ∷ []) s (t .1) i l g ∙ ap₂ (λ (w x : ℕ). registersAfter (recordOf ds i) (w ∷ x ∷ [])) e0 e1);
       clear-alone = λ ds room sents clear s h i l g d c.
           let n = length ds in
           let t = accepted-first n room clear sents h in
           own-words ds room (sents ++ clear ∷ []) s (accepted-last n room clear sents (t .1) (t .0)) i l g
           ∙ ap (registersAfter (recordOf ds i)) (map-last (ownWord n i) sents clear)
-          ∙ driver-laws .clear-alone (recordOf ds i) (map (ownWord n i) sents) (ownWord n i clear) d c
+          ∙ clear-alone (recordOf ds i) (map (ownWord n i) sents) (ownWord n i clear) d c
           ∙ sym (own-words ds room (clear ∷ []) s (t .0) i l g);
     }

@@ -6,29 +6,23 @@ use Prim.Native.Nat.{ℕ, zero, suc}
 use mathlib.Core.List.{List, [], _∷_}
 use mir.Syntax.{Ty, tyUnit, Body, skip, seq, assign, block, loop, cond, switch, exit, return, call, Local, local}
 
+abbrev parts : Body → Body × Body
+parts skip = (skip, skip)
+parts (seq a r) = (a, r)
+parts (assign p v) = (skip, skip)
+parts (block a) = (a, skip)
+parts (loop a) = (a, skip)
+parts (cond c a r) = (a, r)
+parts (switch c s) = (skip, skip)
+parts (exit n) = (skip, skip)
+parts return = (skip, skip)
+parts (call f xs p) = (skip, skip)
+
 abbrev pub part : Body → Body
-part skip = skip
-part (seq a r) = a
-part (assign p v) = skip
-part (block a) = a
-part (loop a) = a
-part (cond c a r) = a
-part (switch c s) = skip
-part (exit n) = skip
-part return = skip
-part (call f xs p) = skip
+part b = parts b .0
 
 abbrev pub rest : Body → Body
-rest skip = skip
-rest (seq a r) = r
-rest (assign p v) = skip
-rest (block a) = skip
-rest (loop a) = skip
-rest (cond c a r) = r
-rest (switch c s) = skip
-rest (exit n) = skip
-rest return = skip
-rest (call f xs p) = skip
+rest b = parts b .1
 
 abbrev pub envOf : List Local → List ℕ → List (Ty × ℕ)
 envOf [] bs = []

@@ -19,13 +19,8 @@ use mir.Syntax.{tyInt, tyArray, w8, w16, w32, w64, field}
 use denote.Laws.{Is}
 use denote.Struct.Laws as LL
 use Rattle.device.specs.declared.Device.{Device}
-use Rattle.pass.specs.Widths.{Bytes}
 use Rattle.registers.proofs.Registers as G
 use Rattle.registers.proofs.Registers.Laws as G′
-use Rattle.controls.proofs.Controls as L
-use Rattle.controls.proofs.Controls.Laws as L′
-use Rattle.controls.proofs.Config as F
-use Rattle.controls.proofs.Config.Laws as F′
 use Rattle.registers.specs.Record.{withPlanes}
 use Rattle.digits.proofs.Planes as Q
 use Rattle.digits.proofs.Planes.Laws as Q′
@@ -65,26 +60,7 @@ device-sized = record { one = refl; size = refl; small = tt }
 abbrev pub widths : Data
 widths = rec W.the-type W′.the-laws W′.the-plain W′.the-copy
 
--- the bytes in a row of a record that is a value of its type
-pub bytes-of : (d : Device) → Is (device .row) d (device .val d ∷ []) → Bytes d
-bytes-of d is =
-    let r = LL.owed G.the-type G′.the-laws (d .registers) _ (LL.owed D.the-type D′.the-laws d (device .val d ∷ []) is .0) in
-    let c = LL.owed L.the-type L′.the-laws (d .registers .controls) _ (r .0) in
-    let f = LL.owed F.the-type F′.the-laws (d .registers .config) _ (r .1 .0) in
-    record {
-      global = c .1 .0 .1;
-      limit = c .1 .1 .0 .1;
-      gpio = c .1 .1 .1 .0 .1;
-      ports = c .1 .1 .1 .1 .0 .1;
-      test = c .1 .1 .1 .1 .1 .0 .1;
-      types = c .1 .1 .1 .1 .1 .1 .0 .1;
-      i = f .0 .1;
-      e = f .1 .0 .1;
-      b = f .1 .1 .0 .1;
-      s = f .1 .1 .1 .0 .1;
-    }
-
--- its planes are rows of sixteen bytes
+-- the planes of a record that is a value of its type are rows of sixteen bytes
 pub planes-of : (d : Device) → Is (device .row) d (device .val d ∷ [])
     → Is (Array (UInt w8) 16) (same (d .registers .planes .p0)) (vstruct (ofList (vals (d .registers .planes .p0))) ∷ []) × Is (Array (UInt w8) 16) (same (d .registers .planes .p1)) (vstruct (ofList (vals (d .registers .planes .p1))) ∷ [])
 planes-of d is =

@@ -2,3 +2,4 @@ pub mod WidthLaws
 pub mod FoundLaws
 pub mod StepLaws
 pub mod AccessLaws
+pub mod Typed

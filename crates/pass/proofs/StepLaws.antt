@@ -5,8 +5,8 @@ use native.Mathlib.Omega.{arith}
 use mathlib.Core.List.{List}
 use mathlib.Core.Path.{_≡_, ap, _∙_}
 use lib.ListN.{length, getD, set, length-append, length-drop}
-use Rattle.ground.proofs.Lists.{length-tabulate, tabulate-none}
-use Rattle.wire.proofs.FillLaws.{tabulate-step, tabulate-rest}
+use Rattle.ground.proofs.Lists.{length-tabulate}
+use Rattle.ground.proofs.Filled.{tabulate-none, tabulate-step, tabulate-rest}
 use Rattle.device.specs.PowerUp.{powerUp}
 use Rattle.device.specs.Taken.{taken}
 use Rattle.device.specs.declared.Device.{Device}

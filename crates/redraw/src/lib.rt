@@ -1,9 +1,6 @@
 // The planner over a lent chain of records, and a list of accesses given to the chain.
-ghost use Prim.Native.Nat.{_+_, _*_, _≤_};
-ghost use mathlib.Core.List.{_++_};
 ghost use mathlib.Core.Path.{_≡_};
-ghost use lib.ListN.{length, take, drop};
-ghost use Rattle.wire.specs.Line.{wordBytes};
+ghost use lib.ListN.{length};
 ghost use Rattle.pass.specs.Found.{toPass};
 ghost use Rattle.planner.specs.OneDriver.{reachTo, acceptTo, listTo};
 ghost use Rattle.redraw.specs.Sent.{Sent};
@@ -77,20 +74,6 @@ fn bytes_refusal(n: usize, words: usize, access: usize, room: usize) -> u8
     0
 }
 
-// Writes the bytes of the n words from a place on, the last of them first.
-fn write_access(n: usize, list: &[u16], start: usize, bytes: &mut [u8])
-    requires { ⌜ (n ≤ 16) × (start + n ≤ length (now list)) × (2 * n ≤ length (now bytes)) ⌝ }
-    ensures { λ _. ⌜ now (bytes .exit) ≡ wordBytes (take n (drop start (now (list .entry)))) ++ drop (2 * n) (now (bytes .entry)) ⌝ }
-{
-    let mut i = 0;
-    while i < n {
-        let w = list[start + (n - 1 - i)];
-        bytes[2 * i] = (w / 256) as u8;
-        bytes[2 * i + 1] = (w % 256) as u8;
-        i += 1;
-    }
-}
-
 // The bytes to send for one access, from 0, of a list of accesses for n drivers: driver n's word first, each highest byte first.
 pub fn plan_bytes(n: usize, list: &[u16], access: usize, bytes: &mut [u8]) -> u8
     ensures { λ r. ⌜ (r ≡ bytesNumber n (length (now (list .entry))) access (length (now (bytes .entry)))) × (now (bytes .exit) ≡ bytesAfter n (now (list .entry)) access (now (bytes .entry))) ⌝ }
@@ -99,7 +82,9 @@ pub fn plan_bytes(n: usize, list: &[u16], access: usize, bytes: &mut [u8]) -> u8
     if number != 0 {
         return number;
     }
-    write_access(n, list, access * n, bytes);
+    let start = access * n;
+    let end = start + n;
+    wire::write_bytes(&list[start..end], bytes);
     0
 }
 

@@ -9,6 +9,9 @@ use Rattle.registers.specs.Registers.{written, dataOf}
 use Rattle.registers.specs.WrittenAndRead.{WrittenAndRead}
 use Rattle.registers.specs.declared.Registers.{Registers}
 
+no-op-written : (x : Registers) (v : ℕ) → written x NoOp v ≡ x
+no-op-written x v = refl
+
 no-op-read : (x : Registers) → dataOf x NoOp ≡ 0
 no-op-read x = refl
 
@@ -27,7 +30,7 @@ report-written x g v = (refl, refl)
 pub written-and-read : WrittenAndRead
 written-and-read =
     record {
-      no-op-written = λ x v. refl;
+      no-op-written = no-op-written;
       no-op-read = no-op-read;
       r-alone = r-alone;
       t-alone = t-alone;

@@ -14,16 +14,10 @@ use denote.Laws.{Is}
 use denote.Shadow.{shadow}
 use denote.Struct.Declared as Declared
 use denote.Struct.Laws.{owed}
-use Rattle.controls.proofs.Config as Config
-use Rattle.controls.proofs.Config.Laws as Config′
-use Rattle.controls.proofs.Controls as Controls
-use Rattle.controls.proofs.Controls.Laws as Controls′
-use Rattle.registers.proofs.Registers as Registers
-use Rattle.registers.proofs.Registers.Laws as Registers′
 use Rattle.device.specs.declared.Device.{Device}
 use Rattle.device.proofs.Device as Driver
-use Rattle.device.proofs.Device.Laws as Driver′
-use Rattle.pass.specs.Widths.{Bytes, AllBytes}
+use Rattle.pass.specs.Widths.{AllBytes}
+use Rattle.pass.proofs.Typed.{bytes-of}
 use Rattle.row.specs.declared.Row.{Row}
 use Rattle.row.proofs.Row as Chain
 use Rattle.row.proofs.Row.Laws as Chain′
@@ -36,24 +30,6 @@ records-are r vs is =
 
 pub sixteen : (r : Row) (vs : List Val) → Is (Declared.row Chain.the-type) r vs → length (r .devices) ≡ 16
 sixteen r vs is = records-are r vs is .1
-
-bytes-of : (d : Device) (vs : List Val) → Is (Declared.row Driver.the-type) d vs → Bytes d
-bytes-of d vs is =
-    let r = owed Registers.the-type Registers′.the-laws (d .registers) _ (owed Driver.the-type Driver′.the-laws d vs is .0) in
-    let c = owed Controls.the-type Controls′.the-laws (d .registers .controls) _ (r .0) in
-    let f = owed Config.the-type Config′.the-laws (d .registers .config) _ (r .1 .0) in
-    record {
-      global = c .1 .0 .1;
-      limit = c .1 .1 .0 .1;
-      gpio = c .1 .1 .1 .0 .1;
-      ports = c .1 .1 .1 .1 .0 .1;
-      test = c .1 .1 .1 .1 .1 .0 .1;
-      types = c .1 .1 .1 .1 .1 .1 .0 .1;
-      i = f .0 .1;
-      e = f .1 .0 .1;
-      b = f .1 .1 .0 .1;
-      s = f .1 .1 .1 .0 .1;
-    }
 
 pub all-bytes : (r : Row) (vs : List Val) → Is (Declared.row Chain.the-type) r vs → (n : ℕ) → AllBytes (take n (r .devices))
 unfolding AllBytes

@@ -38,7 +38,7 @@ use Rattle.transfers.proofs.BusLaws.{answeredTo, Reached, reached}
 use Rattle.transfers.proofs.part_open as open′
 use Rattle.transfers.proofs.part_open.Symbol as open-def
 use Rattle.lent.proofs.Records.{size, byte, device, recordBytes}
-use Rattle.lent.proofs.Walk.{Walk, lands-known, calls-value, leave, leave-room, forks-to, proves}
+use Rattle.lent.proofs.Walk.{Walk, lands-known, calls-value, leave, leave-room, forks, proves}
 use Rattle.lent.proofs.Params.{Kind, held, inners, outers, Seen, seens, values, Args, sents, spelled, told, machine, Good, stays, goes, ends, fits, Had, has, sends, doubled, locals-of, operands, after, env, spot-after, found, alloc-all, pass-all, leave-all, opds-all, FnOf, calls-kinds}
 use Rattle.lent.proofs.call_refusal.Symbol as number-def
 use Rattle.two_wire.proofs.Answers.{busState, strapsGiven, byteAnswer}
@@ -162,7 +162,7 @@ module _ (free work answer : Name) (k : ℕ) (Ks : List (Kind k)) (q : Seen Ks �
         assigns ! (bin ! (load ! (found ! (spot 2) (stop !)) (look ! 23 refl)) (lit ! tt) tt) (found ! (spot 7) (stop !)) (init ! 13 refl (tt, tt)) $
         fsplit ! $ pureL ! (at-slice (device .row) (ref γ b o ys) (slice-vals (ref γ b o ys))) (λ _. fsplit ! $ opens-slice ! tt (device .row) ys b o $
         -- [the records; the open borrow; obs; auth; the other tokens; the further parameters; what is asked of them; the twelve locals, from 7; …; _3 at 31; _2 at 33; _1 at 35; _0 at 37]
-        forks-to ! (λ (a : Left) (l : List (Item 𝓤)). put 𝓤 H A 37 (‵ (fat fullShare (byteAnswer .ty) l₀ 0 (byteAnswer .val (a .0)))) (put 𝓤 H A 0 (‵ (row (device .row) fullShare (a .1 .0) b o)) l)) (load ! (found ! (spot 7) (stop !)) (look ! 15 refl)) (λ Q end none.
+        forks ! (λ (a : Left) (l : List (Item 𝓤)). put 𝓤 H A 37 (‵ (fat fullShare (byteAnswer .ty) l₀ 0 (byteAnswer .val (a .0)))) (put 𝓤 H A 0 (‵ (row (device .row) fullShare (a .1 .0) b o)) l)) (load ! (found ! (spot 7) (stop !)) (look ! 15 refl)) (λ Q end none.
         move ! (6 ∷ []) $ use1 W (‵ (owns (typesAt (inners Ks) (κs .1)) (sents κs Ks xs) (values (κs .1) Ks (sents κs Ks xs))) ⊛ ‵ (owns (typesAt (inners Ks) (κs .1)) (sents κs Ks xs) (values (κs .1) Ks (sents κs Ks xs)))) (doubled 𝓤 H A W κs Ks (sents κs Ks xs)) $ split ! $
         owned ! (strapsGiven .row) (Is (strapsGiven .row)) (strapsGiven .makes 𝓤 H A W) σ (strapsGiven .val σ ∷ []) (is .1 .0) $ fjoin ! $ owned ! (busState .row) (Is (busState .row)) (busState .makes 𝓤 H A W) β (busState .val β ∷ []) (is .0) $ fjoin ! $ owned ! (size .row) (Is (size .row)) (size .makes 𝓤 H A W) (length ys) (size .val (length ys) ∷ []) (refl, room .0) $ fjoin ! $ owned ! (byte .row) (Is (byte .row)) (byte .makes 𝓤 H A W) early (byte .val early ∷ []) is-early $ fjoin ! $ move ! (0 ∷ 6 ∷ 7 ∷ []) $
         -- [what free asks; the other tokens; the further parameters; what is asked of them; the records; the open borrow; obs; auth; the twelve locals, from 8; ..]

@@ -15,7 +15,7 @@ use Rattle.ground.proofs.Lists.{tabulate-ext}
 use Rattle.refusals.specs.Refusals.{bytesFor}
 use Rattle.wire.specs.Bits.{bits, value, unpack, byteAt, pack}
 use Rattle.wire.proofs.BitLaws.{length-bits, value-bits, value-take, value-drop, value-append, value-zeros, length-unpack, unpack-append, drop-unpack, front-16}
-use Rattle.wire.proofs.FillLaws.{tabulate-take}
+use Rattle.ground.proofs.Filled.{tabulate-take}
 
 -- a list's part from n on, cut at n + m
 pub drop-take-add : {A : Type 0} (n m : ℕ) (l : List A) → n ≤ length l → drop n (take (n + m) l) ≡ take m (drop n l)

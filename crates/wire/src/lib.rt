@@ -6,9 +6,8 @@ ghost use lib.ListN.{length, getD, take, drop};
 ghost use Rattle.refusals.specs.Refusals.{bytesFor, sizeRefusal};
 ghost use Rattle.wire.specs.Bits.{bits, value, unpack, pack};
 ghost use Rattle.wire.specs.Wire.{words, answer, shifted};
-ghost use Rattle.wire.specs.Shift.{wordsAfter, roomAfter};
+ghost use Rattle.wire.specs.Shift.{bytesInto, wordsAfter, roomAfter};
 ghost use Rattle.wire.specs.Whole.{WholeAccess};
-ghost use Rattle.wire.specs.Line.{wordBytes};
 
 // The 16 bits from bit off on of three bytes in a row.
 fn window(b0: u8, b1: u8, b2: u8, off: u32) -> u16
@@ -58,11 +57,14 @@ fn write_words(bytes: &[u8], bit: usize, n: usize, next: &mut [u16])
     }
 }
 
-// Writes the bytes of the first n words, the last word first.
-fn write_bytes(words: &[u16], n: usize, room: &mut [u8])
-    requires { ⌜ (n ≤ 16) × (n ≤ length (now words)) × (2 * n ≤ length (now room)) ⌝ }
-    ensures { λ _. ⌜ now (room .exit) ≡ wordBytes (take n (now (words .entry))) ++ drop (2 * n) (now (room .entry)) ⌝ }
+// Writes the bytes of some words, the last word first. Nothing changes where they have no room.
+pub fn write_bytes(words: &[u16], room: &mut [u8])
+    ensures { λ _. ⌜ now (room .exit) ≡ bytesInto (now (words .entry)) (now (room .entry)) ⌝ }
 {
+    let n = words.len();
+    if room.len() / 2 < n {
+        return;
+    }
     let mut j = 0;
     while j < n {
         let w = words[n - 1 - j];
@@ -102,7 +104,7 @@ fn shift_whole(words: &mut [u16], n: usize, clocks: usize, sent: &[u8], room: &m
     ensures { λ _. ⌜ (now (words .exit) ≡ shifted (take n (now (words .entry))) (now (sent .entry)) clocks ++ drop n (now (words .entry))) × (now (room .exit) ≡ answer (take n (now (words .entry))) (now (sent .entry)) clocks ++ drop (bytesFor clocks) (now (room .entry))) ⌝ }
 {
     let count = (clocks + 7) / 8;
-    write_bytes(words, n, room);
+    write_bytes(&words[..n], room);
     copy_bytes(sent, count - 2 * n, room, 2 * n);
     clear_spare(clocks, room);
     write_words(sent, clocks - 16 * n, n, words);
@@ -115,7 +117,7 @@ fn shift_part(words: &mut [u16], n: usize, clocks: usize, sent: &[u8], room: &mu
 {
     let count = (clocks + 7) / 8;
     let mut line = [0; 64];
-    write_bytes(words, n, &mut line);
+    write_bytes(&words[..n], &mut line);
     copy_bytes(sent, count, &mut line, 2 * n);
     copy_bytes(&line, count, room, 0);
     clear_spare(clocks, room);

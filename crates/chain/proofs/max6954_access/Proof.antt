@@ -40,7 +40,7 @@ use Rattle.pass.proofs.access_by_arguments as early′
 use Rattle.pass.proofs.access_by_arguments.Symbol as early-def
 use Rattle.pass.proofs.access_by_arguments.Met as early-thm
 use Rattle.lent.proofs.Records.{size, byte, half, device}
-use Rattle.lent.proofs.Walk.{Walk, LentShared, lends-shared, shared-back, calls-value, calls-fn, lands-known, forks-to, proves}
+use Rattle.lent.proofs.Walk.{Walk, LentShared, lends-shared, shared-back, calls-value, calls-fn, lands-known, forks, proves}
 use Rattle.lent.proofs.Locals.{span, values, starts, leaves, var, sets, resets, lands-in, lands-over, count, target}
 use Rattle.lent.proofs.Arrays.{S, array-opens, array-closes, row-lent, row-back, gives-up}
 use Rattle.chain.proofs.Asks.{not-zero, is-zero}
@@ -214,7 +214,7 @@ module _ {M : Type 1} (𝓤 : URA M) (H : Heap 𝓤) (A : Atoms 𝓤) (W : Given
       sets ! (addr ! (from ! (stop !))) 18 refl refl (tt, tt) $ sets ! (agg ! (and-then ! (var ! 18 refl refl) (and-then ! (lit ! tt) (no-more !)))) 19 refl refl (tt, (tt, (record { fits = lit< tt }, tt))) $
       looks (fmOf 𝓤 H (W .laws) 𝓣) room (l 7) known-looked is-early (λ ν δ ν₁ δ₁. (and-then ! (var ! 17 refl refl) (and-then ! (var ! 12 refl refl) (and-then ! (var ! 19 refl refl) (no-more !))))) (λ is-nr wt-nr.
       lands-in ! 13 refl refl wt-nr $ sets ! (bin ! (var ! 13 refl refl) (lit ! tt) tt) 20 refl refl (tt, tt) $
-      forks-to ! (λ (x : Left) (Δ : List (Item 𝓤)). put 𝓤 H A 6 (‵ (fat fullShare (byte .ty) (l 0) 0 (byte .val nr))) (put 𝓤 H A 5 (‵ ftrue) (put 𝓤 H A 4 (‵ (finally (byte .row) (answer .name) (x .bytes))) (put 𝓤 H A 2 (‵ (row S fullShare (x .row-of) (l 7) 0)) (put 𝓤 H A 0 (‵ (finally R γ (x .chain))) Δ))))) (var ! 20 refl refl) (λ Q end no.
+      forks ! (λ (x : Left) (Δ : List (Item 𝓤)). put 𝓤 H A 6 (‵ (fat fullShare (byte .ty) (l 0) 0 (byte .val nr))) (put 𝓤 H A 5 (‵ ftrue) (put 𝓤 H A 4 (‵ (finally (byte .row) (answer .name) (x .bytes))) (put 𝓤 H A 2 (‵ (row S fullShare (x .row-of) (l 7) 0)) (put 𝓤 H A 0 (‵ (finally R γ (x .chain))) Δ))))) (var ! 20 refl refl) (λ Q end no.
       let refused = access-refused ys clocks (sent .now) (answer .now) (not-zero nr no) in
       sets ! (of-opd ! (var ! 13 refl refl)) 6 refl refl wt-nr $ use1 W (‵ (finally R γ ys)) (gives-up 𝓤 H A W R (named 0) κ (ref γ ys) (slice-vals (ref γ ys))) $ move ! (4 ∷ []) $ use1 W (‵ (finally (byte .row) (answer .name) (answer .now))) (gives-up 𝓤 H A W (byte .row) (named 2) κ₂ answer (slice-vals answer)) $
       move ! (5 ∷ []) $ drop ! $ nothing ! $ move ! (2 ∷ 3 ∷ 4 ∷ 5 ∷ 1 ∷ 0 ∷ []) $ end (record { chain = ys; bytes = answer .now; row-of = old; is = refused; chain-long = refl; bytes-long = refl; words-long = old-long }))

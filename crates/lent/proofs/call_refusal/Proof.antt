@@ -2,6 +2,7 @@
 -- Assumes nothing.
 use native.Mathlib.Omega.{arith}
 use denote.Struct.Laws as LL
+use Rattle.pass.proofs.Typed.{bytes-of}
 use Rattle.lent.proofs.Logic.{RattleType, _≡_, refl, sym, ap, _∙_, subst, ℕ, zero-le, _+_, _-_, _<_, _≤_, _^_, le-antisymm, List, [], _∷_, lit<, ltb→lt, nltb→le, length, getD, URA, fullShare, named, w64, tyInt, tyPtr, tyBool, vint, vptr, SProp, emp, id⊢, via, fst∗, Lft, GName, Share, ftrue, fat, froom, flft, Memory, Routine, Heap, Tables, Atoms, Fun, givenOf, tables, tablesOf, Given, ‵, _⊛_, _$_, _∵_, !, qed, move, keep, split, join, rewrite, fsplit, fjoin, suffices, frame, done, whole, sub, look-in, look, look-raw, init, store, forget, stop, hop, fld, from, load, lit, of-opd, bin, and-then, no-more, assigns, assigns-last, land, returns, enter, alloc1, alloc0, params1, pass1, pass0, free0, fmOf, owns, Is, shows, RefT, ShrSlice, Room, slice-vals, shr-slice-tells, row, place-is, elem-out, elem-back, looks-slice, shuts-slice, plain, nothing, owned, Bound, tripleOf, Triple, cited, says, Stays, stay-none, stay-none-slice, goes-none, goes-none-slice, ends-at, yes, scaled-fits}
 use lib.ListN.{take}
 use Rattle.device.specs.PowerUp.{powerUp}
@@ -28,7 +29,7 @@ use Rattle.pass.proofs.Widths.new.Met as none-thm
 use Rattle.pass.proofs.Widths.with as also
 use Rattle.pass.proofs.Widths.with.Symbol as also-def
 use Rattle.pass.proofs.Widths.with.Met as also-thm
-use Rattle.lent.proofs.Records.{size, byte, device, recordBytes, widths, bytes-of}
+use Rattle.lent.proofs.Records.{size, byte, device, recordBytes, widths}
 use Rattle.lent.proofs.Walk.{Walk, calls-value, leave, leave-room, tests, whiles, proves}
 use Rattle.lent.proofs.call_refusal.Key as key
 use Rattle.lent.proofs.call_refusal as call-refusal
@@ -115,7 +116,7 @@ module _ {M : Type 1} (𝓤 : URA M) (H : Heap 𝓤) (A : Atoms 𝓤) (W : Given
       land ! (from ! (stop !)) (store ! 2 refl wt-next) $ rewrite ! 2 (λ (s : Widths). ‵ (fat fullShare (widths .ty) l₇ 0 (widths .val s))) step refl $
       assigns-last ! (bin ! (load ! (from ! (stop !)) (look ! 1 refl)) (lit ! tt) (record { fits = fits })) (from ! (stop !)) (store ! 1 refl (tt, record { fits = fits })) $
       forget ! 3 refl $ forget ! 4 refl $ forget ! 5 refl $ forget ! 6 refl $
-      again (i + 1, (omega (arith, l), (subst IsWidths step is-next, all-more ys i l′ (t .1 .1 .1) (bytes-of e is-e)))) (omega (arith, l)))))
+      again (i + 1, (omega (arith, l), (subst IsWidths step is-next, all-more ys i l′ (t .1 .1 .1) (bytes-of e _ is-e)))) (omega (arith, l)))))
       (λ ended. out _ $
       -- [the records; _8; _7; _9; _10; _11; _12; _6; _1; the open borrow; the borrow; true; res; the slice's fact; what the others own; _12's …; down to _6's …; _5; …; _4; …; _3; …; _2; …; _1's …; _0; …]
       let same : i ≡ m = le-antisymm (t .1 .0) (nltb→le i m ended) in

@@ -14,6 +14,7 @@ use denote.Shadow.{pureL}
 use denote.Signature.{shrSliceOf}
 use denote.Triple.Walked.{stay-dropped, goes-dropped}
 use lib.ListN.{take}
+use Rattle.pass.proofs.Typed.{bytes-of}
 use Rattle.lent.proofs.Logic.{_≡_, refl, sym, ap, subst, ℕ, zero-le, _+_, _-_, _<_, _≤_, _^_, le-antisymm, List, [], _∷_, lit<, ltb→lt, nltb→le, length, getD, set, URA, fullShare, named, w64, tyInt, tyPtr, tyBool, vint, vptr, SProp, emp, id⊢, via, fst∗, Lft, GName, Share, ftrue, fat, froom, flft, Memory, Routine, Heap, Tables, Atoms, Fun, givenOf, tables, tablesOf, Given, ‵, _⊛_, _$_, _∵_, !, qed, move, keep, drop, split, join, rewrite, fsplit, fjoin, suffices, frame, done, whole, sub, look-in, look, look-raw, init, store, store-raw, forget, stop, hop, fld, from, load, lit, of-opd, bin, and-then, no-more, assigns, assigns-last, land, returns, enter, alloc1, alloc0, params1, pass1, pass0, free0, fmOf, RattleType, owns, Is, shows, RefT, pureI, sliceVal, MutSlice, ShrSlice, Room, at-slice, slice-vals, mut-slice-tells, shr-slice-tells, row, place-is, elem-out, elem-back, elem-put, opens-slice, closes-slice, looks-slice, shuts-slice, plain, nothing, owned, Bound, tripleOf, Triple, cited, says, Stays, stay-slice, goes-slice, ends-at, yes, scaled-fits}
 use Rattle.device.specs.PowerUp.{powerUp}
 use Rattle.device.specs.declared.Device.{Device}
@@ -38,7 +39,7 @@ use Rattle.pass.proofs.Widths.new.Met as none-thm
 use Rattle.pass.proofs.Widths.with as also
 use Rattle.pass.proofs.Widths.with.Symbol as also-def
 use Rattle.pass.proofs.Widths.with.Met as also-thm
-use Rattle.lent.proofs.Records.{size, byte, half, half-sized, device, device-sized, widths, bytes-of, at-shift, local-shift}
+use Rattle.lent.proofs.Records.{size, byte, half, half-sized, device, device-sized, widths, at-shift, local-shift}
 use Rattle.lent.proofs.Parts.{part, rest}
 use Rattle.lent.proofs.Locals.{span, values, envOf, held, starts, leaves, var, sets, lands-in, lands-over, start, count}
 use Rattle.lent.proofs.Elements.{points, takes-out, puts-in, copies}
@@ -115,7 +116,7 @@ module _ {M : Type 1} (𝓤 : URA M) (H : Heap 𝓤) (A : Atoms 𝓤) (W : Given
       calls-value ! (fmOf 𝓤 H (W .laws) 𝓣) (widths ∷ device ∷ []) widths (λ _. emp 𝓤) (λ a. widthsWith (a .0) (a .1 .0)) (known .also) (at ys i, (e, tt)) (t .1 .1 .0, (is-e, tt)) (id⊢ 𝓤 _) (and-then ! (var ! 8 refl refl) (and-then ! (var ! 10 refl refl) (no-more !))) (λ is-next wt-next.
       lands-over ! 7 refl refl wt-next $ rewrite ! 7 (λ (s : Widths). ‵ (fat fullShare (widths .ty) (l 5) 0 (widths .val s))) step refl $
       assigns-last ! (bin ! (var ! 8 refl refl) (lit ! tt) (record { fits = fits })) (from ! (stop !)) (store ! 8 refl (tt, record { fits = fits })) $ forget ! 9 refl $ forget ! 12 refl $ forget ! 13 refl $ forget ! 14 refl $ forget ! 15 refl $ forget ! 16 refl $
-      again (i + 1, (omega (arith, l′), (subst IsWidths step is-next, all-more ys i (below .0) (t .1 .1 .1) (bytes-of e is-e)))) (omega (arith, l′))))))
+      again (i + 1, (omega (arith, l′), (subst IsWidths step is-next, all-more ys i (below .0) (t .1 .1 .1) (bytes-of e _ is-e)))) (omega (arith, l′))))))
       (λ stops. out _ $
       let same : i ≡ m first ys ws = le-antisymm (t .1 .0) (nltb→le i (m first ys ws) stops) in
       subst (λ (j : ℕ). Sq W (At-turn j (some (vbool (ltb j (m first ys ws))) ∷ []) ++ Θ) (runs (𝓣 .C) (𝓣 .Λ) (envOf ls l) after p)) (sym same) (ended (subst (λ (j : ℕ). IsWidths (at ys j)) same (t .1 .1 .0)) (subst (λ (j : ℕ). AllBytes (take j ys)) same (t .1 .1 .1)))))

@@ -24,24 +24,12 @@ loop-holds c =
     let a = c .before .args in
     (omega arith, ap (lastPlace (stopsUnder (a .mask) (a .pattern))) (sym (take-length (a .words .now))))
 
-mul-stops : tie.Need-mul-stops Inv-loop μ-loop
-mul-stops c = omega arith
-
-shared-slice-read-stops : tie.Need-shared-slice-read-stops Inv-loop μ-loop
-shared-slice-read-stops c = omega arith
-
 returns : tie.Need-returns Inv-loop μ-loop
 returns c =
     let a = c .before .before .before .before .before .before .args in
     let l = c .before .before .before .before .loop in
     let t = sym (c .before .stops .ensures) ∙ c .if1 .taken in
     sym (l .inv .1 ∙ stops-at (stopsUnder (a .mask) (a .pattern)) (a .words .now) (l .k - 1) (l .k) (omega arith) (omega arith) t)
-
-mul-stops-2 : tie.Need-mul-stops-2 Inv-loop μ-loop
-mul-stops-2 c = omega arith
-
-shared-slice-read-stops-2 : tie.Need-shared-slice-read-stops-2 Inv-loop μ-loop
-shared-slice-read-stops-2 c = omega arith
 
 returns-2 : tie.Need-returns-2 Inv-loop μ-loop
 returns-2 c =
@@ -53,9 +41,6 @@ returns-2 c =
     let on = goes-on f (a .words .now) (l .k - 1) (l .k) (omega arith) (omega arith) t in
     sym (l .inv .1 ∙ on ∙ stops-at f (a .words .now) (l .k - 2) (l .k - 1) (omega arith) (omega arith) u)
 
-loop-less : tie.Need-loop-less Inv-loop μ-loop
-loop-less c = omega arith
-
 loop-again : tie.Need-loop-again Inv-loop μ-loop
 loop-again c =
     let a = c .before .before .before .before .before .before .before .before .before .args in
@@ -65,9 +50,6 @@ loop-again c =
     let u = sym (c .before .stops2 .ensures) ∙ c .if2 .left in
     let on = goes-on f (a .words .now) (l .k - 1) (l .k) (omega arith) (omega arith) t in
     (omega arith, l .inv .1 ∙ on ∙ goes-on f (a .words .now) (l .k - 2) (l .k - 1) (omega arith) (omega arith) u)
-
-shared-slice-read-stops-3 : tie.Need-shared-slice-read-stops-3 Inv-loop μ-loop
-shared-slice-read-stops-3 c = omega arith
 
 returns-3 : tie.Need-returns-3 Inv-loop μ-loop
 returns-3 c =
@@ -100,20 +82,20 @@ stopping-place-spec =
     μ-loop
     loop-holds
     (λ c. omega arith)
-    mul-stops
-    shared-slice-read-stops
+    (λ c. omega arith)
+    (λ c. omega arith)
     (λ c κs. search needs)
     returns
     (λ c. omega arith)
-    mul-stops-2
-    shared-slice-read-stops-2
+    (λ c. omega arith)
+    (λ c. omega arith)
     (λ c κs. search needs)
     (λ c. omega arith)
     returns-2
     (λ c. omega arith)
-    loop-less
+    (λ c. omega arith)
     loop-again
-    shared-slice-read-stops-3
+    (λ c. omega arith)
     (λ c κs. search needs)
     returns-3
     returns-4

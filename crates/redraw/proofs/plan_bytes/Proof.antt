@@ -1,10 +1,12 @@
 -- `redraw::plan_bytes` meets its contract. Assumes nothing.
-use Prim.Native.Nat.{_+_, _*_, _≤_}
+use Prim.Native.Nat.{_+_, _-_, _*_, _≤_}
 use native.Mathlib.Omega.{arith}
 use mathlib.Core.Path.{_≡_, sym, _∙_}
-use lib.ListN.{length}
+use lib.ListN.{length, take, drop, length-drop}
+use lib.Seq.{length-take-le}
 use borrow.Author.Needs.{needs}
 use borrow.Author.Tests.{ne-eqb}
+use Rattle.wire.proofs.LineLaws.{bytes-fit}
 use Rattle.redraw.specs.PlanBytes.{bytesNumber}
 use Rattle.redraw.proofs.BytesLaws.{bytes-served}
 use Rattle.redraw.proofs.plan_bytes.Statement.{statement}
@@ -26,8 +28,14 @@ returns c = let f = rw (c .before .bytes-refusal .ensures) at (ne-eqb _ 0 (c .if
 
 returns-2 : tie.Need-returns-2
 returns-2 c =
-    let t = c .before .before .before .before in
-    (sym (zero-number t), rw (zero-number t) (c .before .before .write-access .ensures))
+    let t = c .before .before .before .before .before in
+    let a = start t .args in
+    let s = served t in
+    let w : a .access * a .n + a .n - a .access * a .n ≡ a .n = omega arith in
+    let words = take (a .access * a .n + a .n - a .access * a .n) (drop (a .access * a .n) (a .list .now)) in
+    let count : length words ≡ a .n = rw w (length-take-le (a .n) _ (rw length-drop (omega arith))) in
+    let fit = bytes-fit words (a .bytes .now) (a .n) _ count (s .2) (c .before .before .write-bytes .ensures) in
+    (sym (zero-number t), rw (zero-number t) (rw w at fit))
 
 pub plan-bytes-spec : {M : Type 1} → statement M
 plan-bytes-spec =
@@ -36,6 +44,11 @@ plan-bytes-spec =
     (λ c κs. search needs)
     returns
     (λ c. omega (arith, served c))
-    (λ c κs. served (c .before))
+    (λ c. omega (arith, served c))
+    (λ c. omega (arith, served c))
+    (λ c. search needs)
+    (λ c. search needs)
+    (λ c. omega (arith, served c))
+    (λ c κs. search needs)
     (λ c. search needs)
     returns-2)

@@ -15,9 +15,6 @@ Inv-loop script start n table out₀ first row₀ from₀ at₀ out row from at 
 abbrev μ-loop : tie.MeasureT-loop
 μ-loop script start n table out₀ first row₀ from₀ at₀ out row from at = length script - from
 
-new-requires : tie.Need-new-requires Inv-loop μ-loop
-new-requires c κs = search needs
-
 loop-holds : tie.Need-loop-holds Inv-loop μ-loop
 loop-holds c =
     let p = c .before .before .before .before .pre in
@@ -25,15 +22,6 @@ loop-holds c =
 
 sub-rest : tie.Need-sub-rest Inv-loop μ-loop
 sub-rest c = omega (arith, c .loop-test .taken)
-
-part-rest-start : tie.Need-part-rest-start Inv-loop μ-loop
-part-rest-start c = search needs
-
-part-rest-end : tie.Need-part-rest-end Inv-loop μ-loop
-part-rest-end c = search needs
-
-record-size-requires : tie.Need-record-size-requires Inv-loop μ-loop
-record-size-requires c κs = search needs
 
 refusal-line-requires : tie.Need-refusal-line-requires Inv-loop μ-loop
 refusal-line-requires c κs =
@@ -45,9 +33,6 @@ same-length c = written-length _ _ _ _ _ (c .before .before .refusal-line .ensur
 
 returns : tie.Need-returns Inv-loop μ-loop
 returns c = stops-malformed (c .before .before .before .before .before .before .before .before .loop .inv) (c .before .before .before .before .before .before .before .loop-test .taken) (c .before .before .before .before .before .record-size .ensures) (c .before .before .before .before .if1 .taken) (c .before .before .refusal-line .ensures)
-
-byte-requires : tie.Need-byte-requires Inv-loop μ-loop
-byte-requires c κs = search needs
 
 refusal-line-requires-2 : tie.Need-refusal-line-requires-2 Inv-loop μ-loop
 refusal-line-requires-2 c κs =
@@ -118,16 +103,16 @@ run-records-spec =
     (tie.spec
     Inv-loop
     μ-loop
-    new-requires
+    (λ c κs. search needs)
     loop-holds
     sub-rest
-    part-rest-start
-    part-rest-end
-    record-size-requires
+    (λ c. search needs)
+    (λ c. search needs)
+    (λ c κs. search needs)
     refusal-line-requires
     same-length
     returns
-    byte-requires
+    (λ c κs. search needs)
     refusal-line-requires-2
     same-length-2
     returns-2

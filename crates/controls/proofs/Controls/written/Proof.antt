@@ -4,27 +4,6 @@ use borrow.Author.Needs.{needs}
 use Rattle.controls.proofs.Controls.written.Statement.{statement}
 use Rattle.controls.proofs.Controls.written.Tie as tie
 
-returns : tie.Need-returns
-returns c = simp (c .enum-told .given .1) (search tests)
-
-returns-2 : tie.Need-returns-2
-returns-2 c = simp (c .enum-told2 .given .1) (search tests)
-
-returns-3 : tie.Need-returns-3
-returns-3 c = simp (c .enum-told3 .given .1) (search tests)
-
-returns-4 : tie.Need-returns-4
-returns-4 c = simp (c .enum-told4 .given .1) (search tests)
-
-returns-5 : tie.Need-returns-5
-returns-5 c = simp (c .enum-told5 .given .1) (search tests)
-
-returns-6 : tie.Need-returns-6
-returns-6 c = simp (c .enum-told6 .given .1) (search tests)
-
-returns-7 : tie.Need-returns-7
-returns-7 c = simp (c .enum-told7 .given .1) (search tests)
-
 pub written-spec : {M : Type 1} → statement M
 written-spec =
     tie.close
@@ -36,10 +15,10 @@ written-spec =
     (λ c. search needs)
     (λ c. search needs)
     (λ c. search needs)
-    returns
-    returns-2
-    returns-3
-    returns-4
-    returns-5
-    returns-6
-    returns-7)
+    (λ c. simp (c .enum-told .given .1) (search tests))
+    (λ c. simp (c .enum-told2 .given .1) (search tests))
+    (λ c. simp (c .enum-told3 .given .1) (search tests))
+    (λ c. simp (c .enum-told4 .given .1) (search tests))
+    (λ c. simp (c .enum-told5 .given .1) (search tests))
+    (λ c. simp (c .enum-told6 .given .1) (search tests))
+    (λ c. simp (c .enum-told7 .given .1) (search tests)))

@@ -17,26 +17,8 @@ Inv-loop n self w₀ i₀ w i = (i ≤ n) × (w ≡ widthsOf noWidths (take i (s
 abbrev μ-loop : tie.MeasureT-loop
 μ-loop n self w₀ i₀ w i = n - i
 
-new-requires : tie.Need-new-requires Inv-loop μ-loop
-new-requires c κs = search needs
-
 loop-holds : tie.Need-loop-holds Inv-loop μ-loop
 loop-holds c = (omega arith, c .new .ensures ∙ widths-start (c .before .args .t1 .devices))
-
-mul-passed : tie.Need-mul-passed Inv-loop μ-loop
-mul-passed c = search needs
-
-element-copy-out-passed : tie.Need-element-copy-out-passed Inv-loop μ-loop
-element-copy-out-passed c = search needs
-
-with-requires : tie.Need-with-requires Inv-loop μ-loop
-with-requires c κs = search needs
-
-add-i : tie.Need-add-i Inv-loop μ-loop
-add-i c = search needs
-
-loop-less : tie.Need-loop-less Inv-loop μ-loop
-loop-less c = omega arith
 
 loop-again : tie.Need-loop-again Inv-loop μ-loop
 loop-again c =
@@ -60,12 +42,12 @@ widths-spec =
     (tie.spec
     Inv-loop
     μ-loop
-    new-requires
+    (λ c κs. search needs)
     loop-holds
-    mul-passed
-    element-copy-out-passed
-    with-requires
-    add-i
-    loop-less
+    (λ c. search needs)
+    (λ c. search needs)
+    (λ c κs. search needs)
+    (λ c. search needs)
+    (λ c. omega arith)
     loop-again
     returns)

@@ -8,7 +8,7 @@ use Rattle.refusals.specs.Refusals.{chainRefusal, driverRefusal, segmentsRefusa
 use Rattle.device.specs.Sound.{soundOf}
 use Rattle.device.specs.declared.Device.{Device}
 use Rattle.plans.specs.Plan.{accesses}
-use Rattle.calls.specs.Calls.{Step, scan, levels, clocks, Question, plane, planeShown, segments, brightness, shown, interrupt, answerMark, lookBack, ChainQuestion, plan, planCheck, Call, access, give, ask, askChain}
+use Rattle.calls.specs.Calls.{Step, scan, levels, clocks, Question, plane, planeShown, segments, brightness, shown, interrupt, answerMark, lookBack, plan, planCheck, Call, access, give, ask, askChain}
 
 -- 2, by the driver that a call names; an access names none, nor does what the chain is asked
 abbrev pub namedRefusal : ℕ → Call → ℕ

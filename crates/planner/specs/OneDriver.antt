@@ -1,7 +1,7 @@
 -- Auxiliary: the planner's part of one driver, for any numbers and lengths; and the drivers of a chain one after the other. `accesses`, `planned` and
 -- `acceptedList` of `plans` are what is believed.
 -- Assumes nothing.
-use Prim.Native.Nat.{ℕ, zero, suc, _+_, _*_, _-_, _/_, max}
+use Prim.Native.Nat.{ℕ, zero, suc, _+_, _*_, _-_, _/_}
 use mathlib.Core.Bool.{Bool, _&&_}
 use mathlib.Core.List.{List, [], _∷_, _++_}
 use lib.Dec.{ltb, leb}

@@ -22,7 +22,7 @@ use denote.Signature.{shrSliceOf}
 use denote.Slice.{sliceTy}
 use denote.Steps.{peeks, only}
 use denote.Triple.Walked.{stay-dropped, goes-dropped}
-use Rattle.lent.proofs.Logic.{_≡_, refl, sym, ap, _∙_, subst, ℕ, List, [], _∷_, lit<, length, URA, fullShare, named, SProp, emp, id⊢, via, fst∗, Lft, GName, Share, ftrue, fat, flft, Memory, Routine, Heap, Tables, Atoms, Fun, givenOf, tables, tablesOf, Given, ‵, _⊛_, _$_, _∵_, !, qed, move, drop, split, join, rewrite, fsplit, fjoin, suffices, frame, done, whole, sub, look-in, look, init, store, forget, stop, hop, fld, from, load, lit, of-opd, bin, and-then, no-more, assigns, land, returns, enter, alloc1, alloc0, params1, pass1, pass0, free0, fmOf, RattleType, owns, Is, shows, RefT, sliceVal, MutSlice, ShrSlice, Room, slice-vals, mut-slice-tells, shr-slice-tells, row, plain, nothing, owned, Bound, tripleOf, Triple, cited, says, Stays, ends-at, yes, raw, use1, use2, feqL, agg, addr, finally, onEntry, gave-slice, goes-gave-slice}
+use Rattle.lent.proofs.Logic.{_≡_, refl, sym, ap, _∙_, subst, ℕ, List, [], _∷_, lit<, length, URA, fullShare, named, SProp, emp, id⊢, via, fst∗, Lft, GName, Share, ftrue, fat, flft, Memory, Routine, Heap, Tables, Atoms, Fun, givenOf, tables, tablesOf, Given, ‵, _⊛_, _$_, _∵_, !, qed, move, drop, split, join, rewrite, fsplit, fjoin, suffices, frame, done, look, init, forget, stop, from, lit, of-opd, bin, and-then, no-more, returns, enter, params1, pass1, pass0, fmOf, RattleType, owns, Is, shows, RefT, sliceVal, MutSlice, ShrSlice, Room, slice-vals, mut-slice-tells, shr-slice-tells, row, plain, nothing, owned, Bound, tripleOf, Triple, cited, says, Stays, ends-at, yes, raw, use1, use2, feqL, agg, addr, finally, onEntry, gave-slice, goes-gave-slice}
 use Rattle.device.specs.declared.Device.{Device}
 use Rattle.calls.specs.Calls.{access as accessCall}
 use Rattle.calls.specs.CallRefusals.{allSound}
@@ -41,7 +41,7 @@ use Rattle.pass.proofs.access_by_arguments.Symbol as early-def
 use Rattle.pass.proofs.access_by_arguments.Met as early-thm
 use Rattle.lent.proofs.Records.{size, byte, half, device}
 use Rattle.lent.proofs.Walk.{Walk, LentShared, lends-shared, shared-back, calls-value, calls-fn, lands-known, forks, proves}
-use Rattle.lent.proofs.Locals.{span, values, starts, leaves, var, sets, resets, lands-in, lands-over, count, target}
+use Rattle.lent.proofs.Locals.{span, values, starts, leaves, var, sets, lands-in, lands-over, count, target}
 use Rattle.lent.proofs.Arrays.{S, array-opens, array-closes, row-lent, row-back, gives-up}
 use Rattle.chain.proofs.Asks.{not-zero, is-zero}
 use Rattle.lent.proofs.shift_words as looked

@@ -7,7 +7,7 @@ use denote.Signature.{shrSliceOf}
 use denote.Slice.{shr-slice-copy}
 use denote.Steps.{only}
 use denote.Triple.Walked.{stay-dropped, goes-dropped}
-use Rattle.lent.proofs.Logic.{_≡_, refl, sym, ap, _∙_, subst, ℕ, List, [], _∷_, lit<, length, URA, fullShare, named, SProp, emp, id⊢, via, fst∗, Lft, GName, Share, ftrue, flft, Memory, Routine, Heap, Tables, Atoms, Fun, givenOf, tables, tablesOf, Given, ‵, raw, _⊛_, _$_, _∵_, !, qed, move, drop, use1, use2, feqL, split, join, rewrite, fsplit, fjoin, suffices, frame, done, agg, whole, sub, look-in, look, init, store, stop, hop, fld, from, load, lit, of-opd, addr, and-then, no-more, assigns, land, returns, enter, alloc1, alloc0, params1, pass1, pass0, free0, fmOf, RattleType, owns, Is, RefT, ShrSlice, MutSlice, Room, finally, slice-vals, shr-slice-tells, mut-slice-tells, plain, nothing, owned, onEntry, Bound, tripleOf, Triple, cited, says, Stays, gave-slice, goes-gave-slice, ends-at, yes}
+use Rattle.lent.proofs.Logic.{_≡_, refl, sym, ap, subst, ℕ, List, [], _∷_, lit<, length, URA, named, SProp, emp, id⊢, via, fst∗, Lft, Share, ftrue, flft, Memory, Routine, Heap, Tables, Atoms, Fun, givenOf, tables, tablesOf, Given, ‵, raw, _⊛_, _$_, _∵_, !, qed, move, drop, use1, use2, feqL, split, join, rewrite, fsplit, fjoin, suffices, frame, done, agg, whole, sub, look-in, look, init, store, stop, hop, fld, from, load, lit, of-opd, addr, and-then, no-more, assigns, land, returns, enter, alloc1, alloc0, params1, pass1, pass0, free0, fmOf, RattleType, owns, Is, RefT, ShrSlice, MutSlice, Room, finally, slice-vals, shr-slice-tells, mut-slice-tells, plain, nothing, owned, onEntry, Bound, tripleOf, Triple, cited, says, Stays, gave-slice, goes-gave-slice, ends-at, yes}
 use Rattle.ground.specs.Choice.{if}
 use Rattle.refusals.specs.Refusals.{wantedRefusal, listRefusal, firstOf}
 use Rattle.device.specs.declared.Device.{Device}

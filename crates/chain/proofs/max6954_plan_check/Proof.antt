@@ -6,7 +6,7 @@ use lib.Dec.{eqb, ltb}
 use denote.Signature.{shrSliceOf}
 use denote.Slice.{shr-slice-copy}
 use denote.Triple.Walked.{stay-dropped, goes-dropped}
-use Rattle.lent.proofs.Logic.{_≡_, refl, ℕ, List, [], _∷_, lit<, length, URA, fullShare, named, SProp, emp, id⊢, via, fst∗, Lft, GName, Share, ftrue, flft, Memory, Routine, Heap, Tables, Atoms, Fun, givenOf, tables, tablesOf, Given, ‵, raw, _⊛_, _$_, _∵_, !, qed, move, drop, use1, use2, split, join, fsplit, fjoin, suffices, frame, done, whole, sub, look-in, look, init, store, stop, fld, from, load, lit, of-opd, and-then, no-more, assigns, land, returns, enter, alloc1, alloc0, params1, pass1, pass0, free0, fmOf, RattleType, owns, Is, RefT, ShrSlice, Room, slice-vals, shr-slice-tells, plain, nothing, owned, onEntry, Bound, tripleOf, Triple, cited, says, Stays, ends-at, yes}
+use Rattle.lent.proofs.Logic.{_≡_, refl, ℕ, List, [], _∷_, lit<, length, URA, named, SProp, emp, id⊢, via, fst∗, Lft, Share, ftrue, flft, Memory, Routine, Heap, Tables, Atoms, Fun, givenOf, tables, tablesOf, Given, ‵, raw, _⊛_, _$_, _∵_, !, qed, move, drop, use1, use2, split, join, fsplit, fjoin, suffices, frame, done, whole, sub, look-in, look, init, store, stop, fld, from, load, lit, of-opd, and-then, no-more, assigns, land, returns, enter, alloc1, alloc0, params1, pass1, pass0, free0, fmOf, RattleType, owns, Is, RefT, ShrSlice, Room, slice-vals, shr-slice-tells, plain, nothing, owned, onEntry, Bound, tripleOf, Triple, cited, says, Stays, ends-at, yes}
 use Rattle.ground.specs.Choice.{if}
 use Rattle.refusals.specs.Refusals.{wantedRefusal, firstOf}
 use Rattle.device.specs.declared.Device.{Device}

@@ -1,7 +1,7 @@
 -- The proof of `specs/ChainLaws.antt`'s laws: by demand 3 a driver of the chain takes its own words, one after the other.
 -- Assumes nothing.
-use Prim.Native.Nat.{ℕ, _*_, _<_, _≤_}
-use mathlib.Core.Bool.{Bool, true, false, _&&_, _||_}
+use Prim.Native.Nat.{ℕ, _*_, _≤_}
+use mathlib.Core.Bool.{Bool, true, _&&_}
 use mathlib.Core.List.{List, [], _∷_, _++_, map}
 use mathlib.Core.Path.{_≡_, refl, sym, ap, ap₂, _∙_}
 use lib.Dec.{eqb}
@@ -12,16 +12,14 @@ use Rattle.ground.proofs.Truth.{and-left, and-right}
 use Rattle.device.specs.Table15.{afterWords}
 use Rattle.device.specs.Taken.{taken}
 use Rattle.device.specs.declared.Device.{Device}
-use Rattle.plans.specs.Words.{digitWrite, every}
-use Rattle.plans.specs.Plan.{put0, put1, putBoth}
+use Rattle.plans.specs.Words.{digitWrite}
 use Rattle.plans.proofs.Act.{or-cases}
 use Rattle.calls.specs.Calls.{access}
 use Rattle.calls.specs.CallRefusals.{allSound}
 use Rattle.calls.specs.Served.{recordOf}
-use Rattle.calls.specs.CallLists.{afterAll}
 use Rattle.calls.specs.Isolation.{accepted, ownWord, loneStep, lone, AllFull}
 use Rattle.calls.proofs.Alone.{isolated}
-use Rattle.laws.specs.DriverLaws.{registersAfter, digitOf, clearing}
+use Rattle.laws.specs.DriverLaws.{registersAfter}
 use Rattle.laws.specs.ChainLaws.{accessesFor, allAccepted, registersAt, Apart, ChainLaws}
 use Rattle.laws.proofs.Laws.{either-order, both-planes, waits, clear-alone}
 

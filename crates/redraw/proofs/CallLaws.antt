@@ -22,7 +22,7 @@ use Rattle.planner.proofs.ChainLaws.{reach-accesses, accept-list}
 use Rattle.planner.proofs.Listed.{listed}
 use Rattle.calls.specs.Calls.{plan, planCheck, askChain}
 use Rattle.calls.specs.CallRefusals.{allSound}
-use Rattle.calls.specs.Outcome.{number, after, reply, outcome, Outcome}
+use Rattle.calls.specs.Outcome.{number, reply, outcome}
 use Rattle.calls.proofs.Accepted.{after-same}
 use Rattle.pass.specs.Found.{toPass, callRefusal}
 use Rattle.pass.proofs.FoundLaws.{chain-long}

@@ -15,7 +15,7 @@ use denote.Signature.{shrSliceOf}
 use denote.Triple.Walked.{stay-dropped, goes-dropped}
 use lib.ListN.{take}
 use Rattle.pass.proofs.Typed.{bytes-of}
-use Rattle.lent.proofs.Logic.{_≡_, refl, sym, ap, subst, ℕ, zero-le, _+_, _-_, _<_, _≤_, _^_, le-antisymm, List, [], _∷_, lit<, ltb→lt, nltb→le, length, getD, set, URA, fullShare, named, w64, tyInt, tyPtr, tyBool, vint, vptr, SProp, emp, id⊢, via, fst∗, Lft, GName, Share, ftrue, fat, froom, flft, Memory, Routine, Heap, Tables, Atoms, Fun, givenOf, tables, tablesOf, Given, ‵, _⊛_, _$_, _∵_, !, qed, move, keep, drop, split, join, rewrite, fsplit, fjoin, suffices, frame, done, whole, sub, look-in, look, look-raw, init, store, store-raw, forget, stop, hop, fld, from, load, lit, of-opd, bin, and-then, no-more, assigns, assigns-last, land, returns, enter, alloc1, alloc0, params1, pass1, pass0, free0, fmOf, RattleType, owns, Is, shows, RefT, pureI, sliceVal, MutSlice, ShrSlice, Room, at-slice, slice-vals, mut-slice-tells, shr-slice-tells, row, place-is, elem-out, elem-back, elem-put, opens-slice, closes-slice, looks-slice, shuts-slice, plain, nothing, owned, Bound, tripleOf, Triple, cited, says, Stays, stay-slice, goes-slice, ends-at, yes, scaled-fits}
+use Rattle.lent.proofs.Logic.{_≡_, refl, sym, ap, subst, ℕ, zero-le, _+_, _-_, _<_, _≤_, _^_, le-antisymm, List, [], _∷_, lit<, ltb→lt, nltb→le, length, getD, URA, fullShare, named, w64, tyPtr, tyBool, vint, SProp, emp, id⊢, via, fst∗, Lft, GName, Share, ftrue, fat, flft, Memory, Routine, Heap, Tables, Atoms, Fun, givenOf, tables, tablesOf, Given, ‵, _⊛_, _$_, _∵_, !, qed, move, keep, drop, split, join, rewrite, fsplit, fjoin, suffices, frame, done, look-in, look, init, store, store-raw, forget, stop, hop, from, load, lit, of-opd, bin, and-then, no-more, assigns, assigns-last, returns, enter, params1, pass1, pass0, fmOf, RattleType, owns, Is, shows, RefT, pureI, sliceVal, MutSlice, ShrSlice, Room, at-slice, slice-vals, mut-slice-tells, shr-slice-tells, row, opens-slice, closes-slice, looks-slice, shuts-slice, plain, nothing, owned, Bound, tripleOf, Triple, cited, says, Stays, stay-slice, goes-slice, ends-at, yes}
 use Rattle.device.specs.PowerUp.{powerUp}
 use Rattle.device.specs.declared.Device.{Device}
 use Rattle.device.proofs.Device as T

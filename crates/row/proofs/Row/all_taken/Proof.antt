@@ -1,7 +1,7 @@
 -- `row::Row::all_taken` meets its contract. The invariant: the first i records took their words. Assumes nothing.
 use Prim.Native.Nat.{_-_, _<_}
 use native.Mathlib.Omega.{arith}
-use mathlib.Core.Path.{_≡_, refl, ap, _∙_}
+use mathlib.Core.Path.{_≡_, refl}
 use lib.ListN.{length, getD}
 use borrow.Author.Needs.{needs}
 use Rattle.ground.proofs.Filled.{Filled, filled-start, filled-more, filled-rest, filled-all}

@@ -1,16 +1,24 @@
 -- `display::shown_segments` meets its contract. Assumes nothing.
+use mathlib.Core.Bool.{false}
+use mathlib.Core.Path.{_≡_}
 use borrow.Author.Needs.{needs}
 use Rattle.display.proofs.shown_segments.Statement.{statement}
 use Rattle.display.proofs.shown_segments.Tie as tie
 
 returns-2 : tie.Need-returns-2
-returns-2 c = rw (c .before .before .before .if1 .left) (simp (c .before .enum-told .given .1, c .glyph-segments .ensures))
+returns-2 c =
+    let off : c .before .before .before .before .before .before .args .test ≡ false = c .before .before .before .if1 .left in
+    rw off (simp (c .before .enum-told .given .1, c .glyph-segments .ensures))
 
 returns-3 : tie.Need-returns-3
-returns-3 c = rw (c .before .before .before .if1 .left) (simp (c .before .enum-told2 .given .1, c .glyph-segments2 .ensures))
+returns-3 c =
+    let off : c .before .before .before .before .before .before .args .test ≡ false = c .before .before .before .if1 .left in
+    rw off (simp (c .before .enum-told2 .given .1, c .glyph-segments2 .ensures))
 
 returns-4 : tie.Need-returns-4
-returns-4 c = rw (c .before .before .before .if1 .left) (simp (c .before .enum-told3 .given .1, c .pair-segments .ensures))
+returns-4 c =
+    let off : c .before .before .before .before .before .before .args .test ≡ false = c .before .before .before .if1 .left in
+    rw off (simp (c .before .enum-told3 .given .1, c .pair-segments .ensures))
 
 pub shown-segments-spec : {M : Type 1} → statement M
 shown-segments-spec =

@@ -18,7 +18,8 @@ use Rattle.pass.specs.Widths.{Bytes}
 
 pub bytes-of : (d : Device) (vs : List Val) → Is (Declared.row Driver.the-type) d vs → Bytes d
 bytes-of d vs is =
-    let r = owed Registers.the-type Registers′.the-laws (d .registers) _ (owed Driver.the-type Driver′.the-laws d vs is .0) in
+    let x = owed Driver.the-type Driver′.the-laws d vs is in
+    let r = owed Registers.the-type Registers′.the-laws (d .registers) _ (x .0) in
     let c = owed Controls.the-type Controls′.the-laws (d .registers .controls) _ (r .0) in
     let f = owed Config.the-type Config′.the-laws (d .registers .config) _ (r .1 .0) in
     record {
@@ -32,4 +33,6 @@ bytes-of d vs is =
       e = f .1 .0 .1;
       b = f .1 .1 .0 .1;
       s = f .1 .1 .1 .0 .1;
+      mark = x .1 .1 .1 .0 .1;
+      command = x .1 .1 .1 .1 .0 .1;
     }

@@ -18,7 +18,7 @@ use Rattle.device.specs.PowerUp.{powerUp}
 use Rattle.device.specs.Sound.{soundOf}
 use Rattle.device.specs.declared.Device.{Device}
 use Rattle.calls.specs.CallRefusals.{allSound}
-use Rattle.pass.specs.Widths.{greater, firstBytes, lastBytes, noWidths, widthsWith, widthsOf, fit, Bytes, AllBytes}
+use Rattle.pass.specs.Widths.{greater, firstBytes, lastBytes, endBytes, noWidths, widthsWith, widthsOf, fit, Bytes, AllBytes}
 use Rattle.pass.specs.declared.Widths.{Widths}
 
 -- ---- the records one by one
@@ -92,12 +92,15 @@ greater-small m a b = record { same = go (decLt a b) (decLt a m) (decLt b m) }
 
 -- ---- one record more
 module _ (w : Widths) (d : Device) (y : Bytes d) where
-  -- a byte of the eight, and of the two
+  -- a byte of the eight, and of two
   first-byte : (j k v : ℕ) → firstBytes d / 2 ^ j % 2 ^ 8 ≡ v → Two (ltb (bitOr (w .first) (firstBytes d) / 2 ^ j % 2 ^ 8) (2 ^ k)) (ltb (w .first / 2 ^ j % 2 ^ 8) (2 ^ k)) (ltb v (2 ^ k))
   first-byte j k v e = or-byte j k (w .first) (firstBytes d) v e
 
   last-byte : (j k v : ℕ) → lastBytes d / 2 ^ j % 2 ^ 8 ≡ v → Two (ltb (bitOr (w .last) (lastBytes d) / 2 ^ j % 2 ^ 8) (2 ^ k)) (ltb (w .last / 2 ^ j % 2 ^ 8) (2 ^ k)) (ltb v (2 ^ k))
   last-byte j k v e = or-byte j k (w .last) (lastBytes d) v e
+
+  end-byte : (j k v : ℕ) → endBytes d / 2 ^ j % 2 ^ 8 ≡ v → Two (ltb (bitOr (w .ends) (endBytes d) / 2 ^ j % 2 ^ 8) (2 ^ k)) (ltb (w .ends / 2 ^ j % 2 ^ 8) (2 ^ k)) (ltb v (2 ^ k))
+  end-byte j k v e = or-byte j k (w .ends) (endBytes d) v e
 
   -- which byte is which field
   global-is : firstBytes d / 1 % 256 ≡ d .registers .controls .global
@@ -124,6 +127,12 @@ module _ (w : Widths) (d : Device) (y : Bytes d) where
   s-is : lastBytes d / 256 % 256 ≡ d .registers .config .s
   s-is = omega (arith, y .b, y .s)
 
+  mark-is : endBytes d / 1 % 256 ≡ d .«answer_mark»
+  mark-is = omega (arith, y .mark, y .command)
+
+  command-is : endBytes d / 256 % 256 ≡ d .command
+  command-is = omega (arith, y .mark, y .command)
+
   fit-more : fit (widthsWith w d) ≡ fit w && soundOf d
   fit-more =
       let c = d .registers .controls in
@@ -134,7 +143,7 @@ module _ (w : Widths) (d : Device) (y : Bytes d) where
       let pins = or-small 5 (w .pins) (d .registers .pins) in
       let blink = greater-small 4000000 (w .blink) (d .registers .blink) in
       let registers = cross (cross (cross (cross controls config) keys) pins) blink in
-      cross (cross registers (or-small 1 (w .mark) (d .«answer_mark»))) (or-small 7 (w .command) (d .command)) .same
+      cross (cross registers (end-byte 0 1 (d .«answer_mark») mark-is)) (end-byte 8 7 (d .command) command-is) .same
 
 -- ---- all records
 fit-of : (w : Widths) (ds : List Device) → AllBytes ds → fit (widthsOf w ds) ≡ fit w && allSound ds

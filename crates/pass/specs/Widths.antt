@@ -32,9 +32,13 @@ firstBytes x =
 abbrev pub lastBytes : Device → ℕ
 lastBytes x = twoBytes (x .registers .config .b) (x .registers .config .s)
 
+-- and those that are the answer mark and the command address
+abbrev pub endBytes : Device → ℕ
+endBytes x = twoBytes (x .«answer_mark») (x .command)
+
 -- of no record
 abbrev pub noWidths : Widths
-noWidths = record { first = 0; last = 0; pins = 0; blink = 0; interrupt = 0; mark = 0; command = 0 }
+noWidths = record { first = 0; last = 0; pins = 0; blink = 0; interrupt = 0; ends = 0 }
 
 -- of one record more: its fields' bits over those that are there, and the greater blink count
 abbrev pub widthsWith : Widths → Device → Widths
@@ -45,8 +49,7 @@ widthsWith w x =
       pins = bitOr (w .pins) (x .registers .pins);
       blink = greater (w .blink) (x .registers .blink);
       interrupt = bitOr (w .interrupt) (x .registers .keys .interrupt);
-      mark = bitOr (w .mark) (x .«answer_mark»);
-      command = bitOr (w .command) (x .command);
+      ends = bitOr (w .ends) (endBytes x);
     }
 
 -- of records, one after the other
@@ -62,8 +65,8 @@ fit w =
     && ltb (w .interrupt) 2
     && ltb (w .pins) 32
     && ltb (w .blink) 4000000
-    && ltb (w .mark) 2
-    && ltb (w .command) 128
+    && ltb (w .ends / 1 % 256) 2
+    && ltb (w .ends / 256 % 256) 128
 
 -- a record whose bytes are bytes
 pub record Bytes (d : Device) : Type 0 where
@@ -77,6 +80,8 @@ pub record Bytes (d : Device) : Type 0 where
   pub e : d .registers .config .e < 256
   pub b : d .registers .config .b < 256
   pub s : d .registers .config .s < 256
+  pub mark : d .«answer_mark» < 256
+  pub command : d .command < 256
 
 -- records whose bytes are
 unfoldable pub AllBytes : List Device → Type 0

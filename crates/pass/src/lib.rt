@@ -19,8 +19,8 @@ pub struct Widths {
     // The greatest blink count.
     pub blink: u32,
     pub interrupt: u8,
-    pub mark: u8,
-    pub command: u8,
+    // A byte each: the answer mark and the command address, which end the record.
+    pub ends: u16,
 }
 
 // Eight bytes in a row, the first lowest.
@@ -62,8 +62,7 @@ impl Widths {
             pins: 0,
             blink: 0,
             interrupt: 0,
-            mark: 0,
-            command: 0,
+            ends: 0,
         }
     }
 
@@ -91,8 +90,7 @@ impl Widths {
             pins: self.pins | x.pins,
             blink: greater(self.blink, x.blink),
             interrupt: self.interrupt | k.interrupt,
-            mark: self.mark | d.answer_mark,
-            command: self.command | d.command,
+            ends: self.ends | two_bytes(d.answer_mark, d.command),
         }
     }
 
@@ -113,7 +111,7 @@ impl Widths {
             & (self.interrupt < 2)
             & (self.pins < 32)
             & (self.blink < 4000000);
-        registers & (self.mark < 2) & (self.command < 128)
+        registers & (self.ends / 1 % 256 < 2) & (self.ends / 256 % 256 < 128)
     }
 }
 

@@ -1,12 +1,6 @@
 -- The phases, half a period each.
 -- Assumes nothing.
-use Prim.Native.Nat.{ℕ, _%_, _<_, _≤_}
-use native.Mathlib.Omega.{arith}
-use mathlib.Core.Bool.{Bool, true, false}
-use mathlib.Core.Path.{_≡_, refl}
-use lib.Dec.{ltb}
-use borrow.Author.Tests.{lt-ltb, le-ltb, ltb-true, ltb-false}
-use Rattle.ground.specs.Choice.{if}
+use Rattle.ground.proofs.Names.{ℕ, _%_, _<_, _≤_, arith, Bool, true, false, _≡_, refl, ltb, lt-ltb, le-ltb, ltb-true, ltb-false, if}
 use Rattle.words.specs.declared.Plane.the-variants.{P0, P1}
 use Rattle.blink.specs.Blink.{advanced, restarted, phaseAt}
 use Rattle.blink.specs.Phases.{half, other, Phases}

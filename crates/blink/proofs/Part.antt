@@ -1,11 +1,6 @@
 -- The digits that a plane call gives back.
 -- Assumes nothing.
-use Prim.Native.Nat.{ℕ, _+_, _-_, _<_, _≤_}
-use native.Mathlib.Omega.{arith}
-use mathlib.Core.List.{List}
-use mathlib.Core.Path.{_≡_}
-use lib.ListN.{length, getD, length-take, length-drop}
-use lib.Seq.{getD-drop, getD-take}
+use Rattle.ground.proofs.Names.{ℕ, _+_, _-_, _<_, _≤_, arith, List, _≡_, length, getD, length-take, length-drop, getD-drop, getD-take}
 use Rattle.words.specs.declared.Plane.{Plane}
 use Rattle.words.specs.declared.Plane.the-variants.{P0, P1}
 use Rattle.refusals.specs.Refusals.{planeRefusal}

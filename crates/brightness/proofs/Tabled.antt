@@ -1,12 +1,6 @@
 -- Dark cathodes and brightness beside the tables of 000.
 -- Assumes nothing.
-use Prim.Native.Nat.{ℕ, _<_, _≤_}
-use native.Mathlib.Omega.{arith}
-use mathlib.Core.Bool.{true, false, or-true}
-use mathlib.Core.List.{[], _∷_, map}
-use mathlib.Core.Path.{_≡_, refl}
-use borrow.Author.Tests.{lt-ltb, le-ltb}
-use Rattle.ground.specs.Choice.{odd}
+use Rattle.ground.proofs.Names.{ℕ, _<_, _≤_, arith, true, false, or-true, [], _∷_, map, _≡_, refl, lt-ltb, le-ltb, odd}
 use Rattle.device.specs.declared.Device.{Device}
 use Rattle.brightness.specs.Dark.{testOn, dark}
 use Rattle.brightness.specs.Brightness.{ownNibble, sixteenths, ruledTo, cathodeOf, brightnessOf, rulerOf, rulerCode, brightnessAnswer}

@@ -1,15 +1,6 @@
 -- What a call's number says, and what the call does by it.
 -- Assumes nothing.
-use Prim.Native.Nat.{ℕ, _≤_, _<_}
-use native.Mathlib.Omega.{arith}
-use mathlib.Core.Bool.{Bool, true, false, _&&_}
-use mathlib.Core.List.{List, [], _∷_}
-use mathlib.Core.Path.{_≡_, refl}
-use lib.Dec.{ltb}
-use lib.ListN.{length, take}
-use borrow.Author.Tests.{eqb-true, ltb-true}
-use Rattle.ground.specs.Choice.{if}
-use Rattle.ground.proofs.Truth.{and-right, passed}
+use Rattle.ground.proofs.Names.{ℕ, _≤_, _<_, arith, Bool, true, false, _&&_, List, [], _∷_, _≡_, refl, ltb, length, take, eqb-true, ltb-true, if, and-right, passed}
 use Rattle.device.specs.declared.Device.{Device}
 use Rattle.refusals.specs.Refusals.{chainRefusal}
 use Rattle.calls.specs.CallRefusals.{allSound}

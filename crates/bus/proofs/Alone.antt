@@ -1,12 +1,6 @@
 -- The proof of `specs/BusIsolation.antt`'s theorem: the invariant, one step, and induction on the list.
 -- Assumes nothing.
-use Prim.Native.Nat.{ℕ, _-_, _≤_}
-use mathlib.Core.Bool.{Bool, true, false, true≢false}
-use mathlib.Core.List.{List, [], _∷_, map}
-use mathlib.Core.Path.{_≡_, refl, sym, ap, _∙_}
-use lib.ListN.{length}
-use borrow.Author.Tests.{eqb-true}
-use Rattle.ground.proofs.Truth.{and-left, and-right}
+use Rattle.ground.proofs.Names.{ℕ, _-_, _≤_, Bool, true, false, true≢false, List, [], _∷_, map, _≡_, refl, sym, ap, _∙_, length, eqb-true, and-left, and-right}
 use Rattle.device.specs.declared.Device.{Device}
 use Rattle.calls.specs.CallRefusals.{allSound}
 use Rattle.calls.specs.Served.{recordOf}

@@ -1,7 +1,6 @@
 -- The worked examples, by one computation over each table.
 -- Assumes nothing.
-use mathlib.Core.Path.{refl}
-use Rattle.ground.specs.Lists.{Agree}
+use Rattle.ground.proofs.Names.{refl, Agree}
 use Rattle.calls.specs.CallRefusals.{allSound}
 use Rattle.bus.specs.Straps.{placeOf, distinct, sevenBits}
 use Rattle.device.specs.TwoWire.{commanded, received, sentData, sent}

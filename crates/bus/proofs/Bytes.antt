@@ -1,17 +1,6 @@
 -- What an accepted byte does, by the bus state's numbers: the proof of `specs/Acknowledged.antt`'s theorem.
 -- Assumes nothing.
-use Prim.Native.Nat.{ℕ, zero, suc, _-_, _/_, _≤_, _<_}
-use native.Mathlib.Omega.{arith}
-use native.Mathlib.Nat.{not-suc-le-zero}
-use mathlib.Core.Bool.{Bool, true, false, _&&_}
-use mathlib.Core.List.{List, [], _∷_}
-use mathlib.Core.Path.{_≡_, refl, sym, ap, _∙_}
-use lib.Dec.{eqb, leb, ltb}
-use lib.ListN.{length, getD, take}
-use lib.Seq.{set-getD}
-use borrow.Author.Tests.{eqb-true, eq-eqb, ne-eqb, ltb-true}
-use Rattle.ground.specs.Choice.{if, odd}
-use Rattle.ground.proofs.Truth.{and-right, passed}
+use Rattle.ground.proofs.Names.{ℕ, zero, suc, _-_, _/_, _≤_, _<_, arith, not-suc-le-zero, Bool, true, false, _&&_, List, [], _∷_, _≡_, refl, sym, ap, _∙_, eqb, leb, ltb, length, getD, take, set-getD, eqb-true, eq-eqb, ne-eqb, ltb-true, if, odd, and-right, passed}
 use Rattle.device.specs.PowerUp.{powerUp}
 use Rattle.device.specs.declared.Device.{Device}
 use Rattle.refusals.specs.Refusals.{chainRefusal, soundRefusal}

@@ -1,16 +1,6 @@
 -- What a served call leaves at part i's place, and gives back there: to its own calls, and to the others.
 -- Assumes nothing.
-use Prim.Native.Nat.{ℕ, zero, suc, _-_, _≤_}
-use native.Mathlib.Omega.{arith}
-use native.Mathlib.Nat.{not-suc-le-zero}
-use mathlib.Core.Bool.{true, false, true≢false}
-use mathlib.Core.List.{List, [], _∷_}
-use mathlib.Core.Path.{_≡_, refl, sym, ap}
-use lib.Dec.{eqb, ltb}
-use lib.ListN.{length, take}
-use lib.Seq.{getD-set-same, getD-set-other, getD-take}
-use borrow.Author.Tests.{eqb-true, eqb-false, eq-eqb}
-use Rattle.ground.specs.Choice.{if}
+use Rattle.ground.proofs.Names.{ℕ, zero, suc, _-_, _≤_, arith, not-suc-le-zero, true, false, true≢false, List, [], _∷_, _≡_, refl, sym, ap, eqb, ltb, length, take, getD-set-same, getD-set-other, getD-take, eqb-true, eqb-false, eq-eqb, if}
 use Rattle.device.specs.PowerUp.{powerUp}
 use Rattle.device.specs.declared.Device.{Device}
 use Rattle.calls.specs.Calls.{give as giveChain, ask as askChain}

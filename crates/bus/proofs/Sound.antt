@@ -1,12 +1,6 @@
 -- Calls on the bus leave sound records.
 -- Assumes nothing.
-use Prim.Native.Nat.{ℕ, _-_}
-use mathlib.Core.Bool.{Bool, true, false}
-use mathlib.Core.List.{List, [], _∷_}
-use mathlib.Core.Path.{_≡_, refl, _∙_}
-use lib.Dec.{eqb}
-use lib.ListN.{length, length-set}
-use Rattle.ground.specs.Choice.{if}
+use Rattle.ground.proofs.Names.{ℕ, _-_, Bool, true, false, List, [], _∷_, _≡_, refl, _∙_, eqb, length, length-set, if}
 use Rattle.device.specs.Sound.{soundOf}
 use Rattle.device.specs.declared.Device.{Device}
 use Rattle.device.proofs.Sound.{soundness as device-sound}

@@ -1,14 +1,6 @@
 -- Bus states and what they stand for.
 -- Assumes nothing.
-use Prim.Native.Nat.{ℕ, zero, suc, _≤_}
-use native.Mathlib.Omega.{arith}
-use mathlib.Core.Bool.{Bool, true, false}
-use mathlib.Core.List.{List}
-use mathlib.Core.Path.{_≡_, refl}
-use lib.Dec.{eqb, leb, ltb}
-use borrow.Author.Tests.{eqb-false, ne-eqb, leb-true, le-leb}
-use Rattle.ground.specs.Choice.{if}
-use Rattle.ground.proofs.Truth.{and-left}
+use Rattle.ground.proofs.Names.{ℕ, zero, suc, _≤_, arith, Bool, true, false, List, _≡_, refl, eqb, leb, ltb, eqb-false, ne-eqb, leb-true, le-leb, if, and-left}
 use Rattle.bus.specs.declared.Bus.{Bus}
 use Rattle.bus.specs.Straps.{matched}
 use Rattle.bus.specs.States.{Use, command, writing, reading, State, idle, slave, unmatched, transfer, freeAt, useAt, stateOf, phaseOf, busOf, soundBus}

@@ -1,17 +1,6 @@
 -- The part that a slave byte names.
 -- Assumes nothing.
-use Prim.Native.Nat.{ℕ, zero, suc, _-_, _/_, _≤_, _<_}
-use native.Mathlib.Omega.{arith}
-use native.Mathlib.Nat.{not-suc-le-zero}
-use mathlib.Core.Bool.{Bool, true, false}
-use mathlib.Core.List.{List, [], _∷_}
-use mathlib.Core.Path.{_≡_, refl, ap, sym, _∙_}
-use lib.Dec.{eqb, ltb}
-use lib.ListN.{length, getD, take, length-take}
-use lib.Seq.{getD-take}
-use borrow.Author.Tests.{eqb-true, eqb-false, eq-eqb, ne-eqb}
-use Rattle.ground.specs.Choice.{if}
-use Rattle.ground.proofs.Truth.{and-left, and-right}
+use Rattle.ground.proofs.Names.{ℕ, zero, suc, _-_, _/_, _≤_, _<_, arith, not-suc-le-zero, Bool, true, false, List, [], _∷_, _≡_, refl, ap, sym, _∙_, eqb, ltb, length, getD, take, length-take, getD-take, eqb-true, eqb-false, eq-eqb, ne-eqb, if, and-left, and-right}
 use Rattle.bus.specs.Straps.{strapOf, further, placeOf, matched, distinct, sevenBits}
 
 -- two tests that hold together

@@ -1,16 +1,6 @@
 -- Part i's view of the bus: the tracker follows the bus states, and the lone bus does what the whole bus does in part i's transactions.
 -- Assumes nothing.
-use Prim.Native.Nat.{ℕ, zero, suc, _≤_}
-use native.Mathlib.Omega.{arith}
-use native.Mathlib.Nat.{not-suc-le-zero}
-use mathlib.Core.Bool.{Bool, true, false, true≢false}
-use mathlib.Core.List.{List, _∷_}
-use mathlib.Core.Path.{_≡_, refl, sym, ap, _∙_}
-use lib.Dec.{eqb, leb, ltb}
-use lib.ListN.{length}
-use borrow.Author.Tests.{eqb-true, eq-eqb, ne-eqb}
-use Rattle.ground.specs.Choice.{if}
-use Rattle.ground.proofs.Truth.{and-right}
+use Rattle.ground.proofs.Names.{ℕ, zero, suc, _≤_, arith, not-suc-le-zero, Bool, true, false, true≢false, List, _∷_, _≡_, refl, sym, ap, _∙_, eqb, leb, ltb, length, eqb-true, eq-eqb, ne-eqb, if, and-right}
 use Rattle.bus.specs.declared.Bus.{Bus}
 use Rattle.bus.specs.Straps.{strapOf, matched}
 use Rattle.bus.specs.States.{State, idle, slave, unmatched, transfer, freeAt, useAt, stateOf, soundBus}

@@ -1,16 +1,6 @@
 -- Whole transactions: the proof of `specs/Transactions.antt`'s theorem.
 -- Assumes nothing.
-use Prim.Native.Nat.{ℕ, zero, suc, _+_, _*_, _-_, _/_, _%_, _≤_, _<_, min}
-use native.Mathlib.Omega.{arith}
-use native.Mathlib.Nat.{mod-lt}
-use mathlib.Core.Bool.{Bool, true, false}
-use mathlib.Core.List.{List, [], _∷_, _++_, map}
-use mathlib.Core.Path.{_≡_, refl, ap, _∙_}
-use lib.Dec.{ltb}
-use lib.ListN.{length, replicate, length-set}
-use lib.Seq.{getD-set-same, set-set, set-getD}
-use borrow.Author.Tests.{eqb-true, eq-eqb, ne-eqb, lt-ltb, ltb-true, ltb-false}
-use Rattle.ground.specs.Choice.{if, odd}
+use Rattle.ground.proofs.Names.{ℕ, zero, suc, _+_, _*_, _-_, _/_, _%_, _≤_, _<_, min, arith, mod-lt, Bool, true, false, List, [], _∷_, _++_, map, _≡_, refl, ap, _∙_, ltb, length, replicate, length-set, getD-set-same, set-set, set-getD, eqb-true, eq-eqb, ne-eqb, lt-ltb, ltb-true, ltb-false, if, odd}
 use Rattle.words.specs.Addresses.{writtenAt, readAt}
 use Rattle.registers.specs.Registers.{written, dataOf, afterRead}
 use Rattle.device.specs.PowerUp.{powerUp}

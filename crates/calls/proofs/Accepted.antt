@@ -1,15 +1,6 @@
 -- What a call's number says of its arguments and of the chain, and what the call does by it.
 -- Assumes nothing.
-use Prim.Native.Nat.{ℕ, _≤_, _<_}
-use native.Mathlib.Omega.{arith}
-use mathlib.Core.Bool.{Bool, true, false, _&&_}
-use mathlib.Core.List.{List, [], _∷_}
-use mathlib.Core.Path.{_≡_, refl}
-use lib.Dec.{eqb, leb, ltb}
-use lib.ListN.{length}
-use borrow.Author.Tests.{leb-true, ltb-true, ltb-false}
-use Rattle.ground.specs.Choice.{if}
-use Rattle.ground.proofs.Truth.{and-left, and-right, passed}
+use Rattle.ground.proofs.Names.{ℕ, _≤_, _<_, arith, Bool, true, false, _&&_, List, [], _∷_, _≡_, refl, eqb, leb, ltb, length, leb-true, ltb-true, ltb-false, if, and-left, and-right, passed}
 use Rattle.refusals.specs.Refusals.{bytesFor, chainRefusal, driverRefusal, soundRefusal, firstOf, sizeRefusal}
 use Rattle.refusals.proofs.RefusalLaws.{first-zero, size-served as sizes-fit}
 use Rattle.device.specs.declared.Device.{Device}

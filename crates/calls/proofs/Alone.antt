@@ -1,15 +1,6 @@
 -- The proof of `specs/Isolation.antt`'s theorem: one law for each kind of call, then induction on the list.
 -- Assumes nothing.
-use Prim.Native.Nat.{ℕ, _-_, _*_, _≤_}
-use native.Mathlib.Omega.{arith}
-use mathlib.Core.Bool.{Bool, true, false}
-use mathlib.Core.List.{List, [], _∷_, map}
-use mathlib.Core.Path.{_≡_, refl, ap, _∙_}
-use lib.Dec.{eqb}
-use lib.ListN.{length}
-use lib.Seq.{getD-set-same, getD-set-other}
-use borrow.Author.Tests.{eqb-true, eqb-false}
-use Rattle.ground.specs.Choice.{if}
+use Rattle.ground.proofs.Names.{ℕ, _-_, _*_, _≤_, arith, Bool, true, false, List, [], _∷_, map, _≡_, refl, ap, _∙_, eqb, length, getD-set-same, getD-set-other, eqb-true, eqb-false, if}
 use Rattle.refusals.specs.Refusals.{bytesFor}
 use Rattle.device.specs.PowerUp.{powerUp}
 use Rattle.device.specs.Taken.{taken}

@@ -1,11 +1,6 @@
 -- What an access answers and leaves at one driver's place.
 -- Assumes nothing.
-use Prim.Native.Nat.{ℕ, _-_, _*_, _≤_}
-use native.Mathlib.Omega.{arith}
-use mathlib.Core.List.{List}
-use mathlib.Core.Path.{_≡_, _∙_}
-use lib.ListN.{length, getD, drop, length-map, List·getD-map}
-use Rattle.ground.proofs.Lists.{getD-tabulate}
+use Rattle.ground.proofs.Names.{ℕ, _-_, _*_, _≤_, arith, List, _≡_, _∙_, length, getD, drop, length-map, List·getD-map, getD-tabulate}
 use Rattle.refusals.specs.Refusals.{bytesFor}
 use Rattle.wire.specs.Bits.{bits, value}
 use Rattle.wire.specs.Wire.{answer}

@@ -1,14 +1,6 @@
 -- The proof of `specs/AnswerMark.antt`'s theorem.
 -- Assumes nothing.
-use Prim.Native.Nat.{ℕ, _-_, _≤_}
-use mathlib.Core.Bool.{Bool, true, false}
-use mathlib.Core.List.{List}
-use mathlib.Core.Path.{_≡_, refl, ap, _∙_}
-use lib.Dec.{eqb}
-use lib.ListN.{length}
-use lib.Seq.{map-set-same}
-use borrow.Author.Tests.{ne-eqb}
-use Rattle.ground.specs.Choice.{if, bit}
+use Rattle.ground.proofs.Names.{ℕ, _-_, _≤_, Bool, true, false, List, _≡_, refl, ap, _∙_, eqb, length, map-set-same, ne-eqb, if, bit}
 use Rattle.device.specs.PowerUp.{powerUp}
 use Rattle.device.specs.declared.Device.{Device}
 use Rattle.device.proofs.Shift.{shift-word}

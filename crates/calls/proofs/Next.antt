@@ -1,12 +1,6 @@
 -- The proof of `specs/NextAccess.antt`'s theorem: what is given and asked between two accesses leaves every shift word as it is.
 -- Assumes nothing.
-use Prim.Native.Nat.{ℕ, _-_, _/_, _%_, _≤_}
-use mathlib.Core.Bool.{Bool, true, false}
-use mathlib.Core.List.{List, [], _∷_}
-use mathlib.Core.Path.{_≡_, refl, sym, ap, _∙_}
-use lib.ListN.{length, getD, length-map, List·getD-map}
-use lib.Seq.{map-set-same}
-use Rattle.ground.specs.Choice.{if, bit}
+use Rattle.ground.proofs.Names.{ℕ, _-_, _/_, _%_, _≤_, Bool, true, false, List, [], _∷_, _≡_, refl, sym, ap, _∙_, length, getD, length-map, List·getD-map, map-set-same, if, bit}
 use Rattle.words.specs.Addresses.{readAt}
 use Rattle.wire.specs.Bits.{bits, value}
 use Rattle.registers.specs.Registers.{dataOf}

@@ -1,17 +1,6 @@
 -- Lists of records: what each call leaves of their number, and when they are sound.
 -- Assumes nothing.
-use Prim.Native.Nat.{ℕ, zero, suc, _<_}
-use native.Mathlib.Omega.{arith}
-use mathlib.Core.Bool.{Bool, true, false}
-use mathlib.Core.List.{List, [], _∷_}
-use mathlib.Core.Path.{_≡_, refl, sym, _∙_}
-use lib.Dec.{eqb}
-use lib.ListN.{length, getD, set, length-set}
-use lib.Seq.{getD-set-same, getD-set-other}
-use borrow.Author.Tests.{eqb-true, eqb-false}
-use Rattle.ground.specs.Choice.{if}
-use Rattle.ground.proofs.Lists.{length-tabulate}
-use Rattle.ground.proofs.Truth.{and-left, and-right}
+use Rattle.ground.proofs.Names.{ℕ, zero, suc, _<_, arith, Bool, true, false, List, [], _∷_, _≡_, refl, sym, _∙_, eqb, length, getD, set, length-set, getD-set-same, getD-set-other, eqb-true, eqb-false, if, length-tabulate, and-left, and-right}
 use Rattle.device.specs.PowerUp.{powerUp}
 use Rattle.device.specs.Sound.{soundOf}
 use Rattle.device.specs.declared.Device.{Device}

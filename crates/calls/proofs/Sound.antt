@@ -1,14 +1,6 @@
 -- The proof of `specs/Soundness.antt`'s theorem: served calls, one kind after the other, leave sound records.
 -- Assumes nothing.
-use Prim.Native.Nat.{_-_}
-use mathlib.Core.Bool.{Bool, true, false}
-use mathlib.Core.List.{List, [], _∷_}
-use mathlib.Core.Path.{_≡_, refl}
-use lib.Dec.{eqb}
-use lib.ListN.{length, getD}
-use borrow.Author.Tests.{eqb-true}
-use Rattle.ground.specs.Choice.{if}
-use Rattle.ground.proofs.Lists.{length-tabulate, getD-tabulate}
+use Rattle.ground.proofs.Names.{_-_, Bool, true, false, List, [], _∷_, _≡_, refl, eqb, length, getD, eqb-true, if, length-tabulate, getD-tabulate}
 use Rattle.device.specs.PowerUp.{powerUp}
 use Rattle.device.specs.Sound.{soundOf}
 use Rattle.device.specs.declared.Device.{Device}

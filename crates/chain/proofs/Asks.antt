@@ -5,29 +5,10 @@
 --     asks            its MIR.        ended, clauses      its contract.        walk     the MIR meets it
 --     asks-spec       so a function whose MIR is that meets that contract
 -- Assumes nothing.
-use Prim.Native.Nat.{suc}
-use native.Mathlib.Omega.{arith}
-use mathlib.Core.List.{_++_}
-use mathlib.Core.Bool.{Bool, true, false, not}
-use lib.Dec.{eqb, T as Holds, eqb→eq}
-use mir.Syntax.{Name, Fn, Local, local, valueLocal, tyRef, imm, place, field, deref, seq, assign, call, cond, skip, return, copy, int, rvOpd, op2, sub as minus, mul, ne, offset, unsigned}
-use mir.Val.{Val}
-use prog.Model.{Model}
+use Rattle.ground.proofs.Names.{suc, arith, _++_, Bool, true, false, not, eqb, Holds, eqb→eq}
 use prog.Routine as routine
-use prog.Wp.{Closed, Env, spotOf}
-use contract.Lifetimes.{Lfts, Shares, toks}
-use contract.Running.{Running, GhostRules}
-use types.Kit.{use0, put, Item}
-use denote.Memory.{pointee}
-use denote.Ref.{now}
-use denote.Shadow.{pureL}
-use denote.Slice.{sliceTy, shr-slice-copy}
-use denote.Signature.{shrSliceOf, typeAt, typesAt}
 use denote.Struct.Laws as LL
-use denote.Triple.Clauses.{Ended, Clauses, closing}
-use denote.Triple.End.{all}
-use denote.Triple.Walked.{stay-dropped, goes-dropped}
-use Rattle.lent.proofs.Logic.{_≡_, refl, sym, subst, ℕ, _-_, _<_, List, [], _∷_, URA, fullShare, named, w8, w64, tyBool, tyPtr, vptr, length, getD, SProp, emp, via, fst∗, ftrue, fat, flft, Memory, Routine, Heap, Tables, Atoms, Fun, fact, givenOf, tables, tablesOf, Given, ‵, raw, _⊛_, _$_, _∵_, !, qed, move, keep, drop, use1, split, join, rewrite, fsplit, fjoin, suffices, frame, done, whole, sub, look-in, look, look-raw, init, forget, stop, hop, fld, from, load, lit, of-opd, bin, and-then, no-more, assigns, land, returns, enter, alloc1, alloc0, params1, pass1, free0, fmOf, owns, Is, shows, RefT, at-slice, ShrSlice, slice-vals, shr-slice-tells, row, place-is, elem-out, elem-back, looks-slice, shuts-slice, plain, nothing, owned, peeks, Bound, tripleOf, Contract, Triple, says, Stays, ends-at, yes, scaled-fits}
+use Rattle.lent.proofs.Logic.{_≡_, refl, sym, subst, ℕ, _-_, _<_, List, [], _∷_, URA, fullShare, named, w8, w64, tyBool, tyPtr, vptr, length, getD, SProp, emp, via, fst∗, ftrue, fat, flft, Memory, Routine, Heap, Tables, Atoms, Fun, fact, givenOf, tables, tablesOf, Given, ‵, raw, _⊛_, _$_, _∵_, !, qed, move, keep, drop, use1, split, join, rewrite, fsplit, fjoin, suffices, frame, done, whole, sub, look-in, look, look-raw, init, forget, stop, hop, fld, from, load, lit, of-opd, bin, and-then, no-more, assigns, land, returns, enter, alloc1, alloc0, params1, pass1, free0, fmOf, owns, Is, shows, RefT, at-slice, ShrSlice, slice-vals, shr-slice-tells, row, place-is, elem-out, elem-back, looks-slice, shuts-slice, plain, nothing, owned, peeks, Bound, tripleOf, Contract, Triple, says, Stays, ends-at, yes, scaled-fits, Name, Fn, Local, local, valueLocal, tyRef, imm, place, field, deref, seq, assign, cond, skip, return, copy, int, rvOpd, op2, minus, mul, ne, offset, unsigned, Val, Model, Closed, Env, spotOf, Lfts, Shares, toks, Running, GhostRules, use0, put, Item, pointee, now, pureL, sliceTy, shr-slice-copy, shrSliceOf, typeAt, typesAt, Ended, Clauses, closing, all, stay-dropped, goes-dropped, call}
 use Rattle.device.specs.PowerUp.{powerUp}
 use Rattle.device.specs.declared.Device.{Device}
 use Rattle.device.proofs.Device as T

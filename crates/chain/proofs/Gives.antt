@@ -5,27 +5,9 @@
 --     gives             its MIR.        ended, clauses      its contract.        walk     the MIR meets it
 --     gives-spec        so a function whose MIR is that meets that contract
 -- Assumes nothing.
-use Prim.Native.Nat.{suc}
-use native.Mathlib.Omega.{arith}
-use mathlib.Core.List.{_++_}
-use lib.Dec.{eqb, T as Holds, eqb→eq}
-use lib.ListN.{length-set}
-use mathlib.Core.Bool.{not}
-use mir.Syntax.{Name, Fn, Local, Ty, local, valueLocal, tyRef, imm, mut, erased, place, field, deref, seq, assign, call, cond, skip, return, copy, int, rvOpd, op2, sub as minus, mul, eq, offset, unsigned, aggregate, addrOf}
-use prog.Model.{Model}
+use Rattle.ground.proofs.Names.{suc, arith, _++_, eqb, Holds, eqb→eq, length-set, not}
 use prog.Routine as routine
-use prog.Wp.{Closed, Env, spotOf}
-use contract.Lifetimes.{Lfts, Shares, toks}
-use contract.Running.{Running, GhostRules}
-use types.Kit.{use0}
-use denote.Memory.{pointee}
-use denote.Ref.{now}
-use denote.Shadow.{pureL}
-use denote.Slice.{sliceTy}
-use denote.Signature.{mutSliceOf, typesAt}
-use denote.Triple.Clauses.{Ended, Clauses, closing}
-use denote.Triple.End.{all}
-use Rattle.lent.proofs.Logic.{_≡_, refl, sym, ap, subst, ℕ, _-_, _<_, List, [], _∷_, URA, fullShare, named, w8, w64, tyBool, tyPtr, vint, vptr, length, getD, set, SProp, emp, via, fst∗, GName, fat, flft, Memory, Routine, Heap, Tables, Atoms, Fun, fact, givenOf, tables, tablesOf, Given, ‵, raw, _⊛_, _$_, _∵_, !, qed, move, keep, drop, use1, split, join, rewrite, fsplit, fjoin, suffices, frame, done, agg, whole, sub, look-in, look, look-raw, init, store, store-raw, forget, stop, hop, fld, from, load, lit, of-opd, bin, addr, and-then, no-more, assigns, assigns-last, land, returns, enter, alloc1, alloc0, params1, pass1, free0, fmOf, owns, Is, shows, pureI, sliceVal, at-slice, Room, slice-vals, mut-slice-tells, row, place-is, elem-out, elem-back, elem-put, opens-slice, closes-slice, plain, owned, Bound, tripleOf, Contract, Triple, says, Stays, stay-slice, goes-slice, ends-at, yes, scaled-fits}
+use Rattle.lent.proofs.Logic.{_≡_, refl, sym, ap, subst, ℕ, _-_, _<_, List, [], _∷_, URA, fullShare, named, w8, w64, tyBool, tyPtr, vint, vptr, length, getD, set, SProp, emp, via, fst∗, GName, fat, flft, Memory, Routine, Heap, Tables, Atoms, Fun, fact, givenOf, tables, tablesOf, Given, ‵, raw, _⊛_, _$_, _∵_, !, qed, move, keep, drop, use1, split, join, rewrite, fsplit, fjoin, suffices, frame, done, agg, whole, sub, look-in, look, look-raw, init, store, store-raw, forget, stop, hop, fld, from, load, lit, of-opd, bin, addr, and-then, no-more, assigns, assigns-last, land, returns, enter, alloc1, alloc0, params1, pass1, free0, fmOf, owns, Is, shows, pureI, sliceVal, at-slice, Room, slice-vals, mut-slice-tells, row, place-is, elem-out, elem-back, elem-put, opens-slice, closes-slice, plain, owned, Bound, tripleOf, Contract, Triple, says, Stays, stay-slice, goes-slice, ends-at, yes, scaled-fits, Name, Fn, Local, Ty, local, valueLocal, tyRef, imm, mut, erased, place, field, deref, seq, assign, cond, skip, return, copy, int, rvOpd, op2, minus, mul, eq, offset, unsigned, aggregate, addrOf, Model, Closed, Env, spotOf, Lfts, Shares, toks, Running, GhostRules, use0, pointee, now, pureL, sliceTy, mutSliceOf, typesAt, Ended, Clauses, closing, all, call}
 use Rattle.device.specs.PowerUp.{powerUp}
 use Rattle.device.specs.declared.Device.{Device}
 use Rattle.calls.specs.Calls.{Step, give}

@@ -1,10 +1,6 @@
 -- What is written fits its register's width.
 -- Assumes nothing.
-use Prim.Native.Nat.{ℕ, _/_}
-use mathlib.Core.Bool.{true, _&&_}
-use mathlib.Core.Path.{_≡_}
-use lib.Dec.{ltb}
-use Rattle.ground.proofs.Truth.{and-left, and-right, mod-small}
+use Rattle.ground.proofs.Names.{ℕ, _/_, true, _&&_, _≡_, ltb, and-left, and-right, mod-small}
 use Rattle.words.specs.declared.ControlRegister.{ControlRegister}
 use Rattle.words.specs.declared.ControlRegister.the-variants.{DecodeMode, GlobalIntensity, ScanLimit, GpioData, PortConfiguration, DisplayTest, DigitType}
 use Rattle.controls.specs.Controls.{controlWritten, soundControls}

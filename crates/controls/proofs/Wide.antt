@@ -1,19 +1,10 @@
 -- The control registers by their widths.
 -- Assumes nothing.
-use Prim.Native.Nat.{ℕ, _+_, _*_, _%_, _^_, _<_}
-use native.Mathlib.Omega.{arith}
-use mathlib.Core.Bool.{Bool, true, _&&_}
-use mathlib.Core.List.{[], _∷_, map}
-use mathlib.Core.Path.{_≡_, refl}
-use lib.Dec.{eqb, ltb}
-use lib.Bits.{bitAnd}
-use borrow.Author.Tests.{eqb-true, ltb-true, lt-ltb}
+use Rattle.ground.proofs.Names.{ℕ, _+_, _*_, _%_, _^_, _<_, arith, Bool, true, _&&_, [], _∷_, map, _≡_, refl, eqb, ltb, bitAnd, eqb-true, ltb-true, lt-ltb, all-at, and-left, and-right}
 use Rattle.words.specs.declared.Plane.{Plane}
 use Rattle.words.specs.declared.Plane.the-variants.{P0, P1}
 use Rattle.words.specs.declared.ControlRegister.{ControlRegister}
 use Rattle.words.specs.declared.ControlRegister.the-variants.{DecodeMode, GlobalIntensity, ScanLimit, GpioData, PortConfiguration, DisplayTest, DigitType}
-use Rattle.ground.proofs.Below.{all-at}
-use Rattle.ground.proofs.Truth.{and-left, and-right}
 use Rattle.controls.specs.Controls.{controlWritten, soundControls}
 use Rattle.controls.specs.Config.{configOf, phaseBit, configData}
 use Rattle.controls.specs.Widths.{widthOf, storedIn, Widths}

@@ -1,7 +1,6 @@
 -- The examples of one driver, by computation.
 -- Assumes nothing.
-use mathlib.Core.Path.{refl}
-use Rattle.ground.specs.Lists.{Agree}
+use Rattle.ground.proofs.Names.{refl, Agree}
 use Rattle.device.specs.Taken.{taken}
 use Rattle.device.specs.Examples.{rows, registerRows, keyRows, Examples}
 

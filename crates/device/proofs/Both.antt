@@ -1,11 +1,6 @@
 -- The proof of `specs/BothBuses.antt`'s theorem.
 -- Assumes nothing.
-use Prim.Native.Nat.{ℕ, _+_, _*_, _/_, _%_, _^_, _<_}
-use native.Mathlib.Omega.{arith}
-use mathlib.Core.Bool.{true, false}
-use mathlib.Core.Path.{_≡_, refl, _∙_}
-use borrow.Author.Tests.{eq-eqb, ne-eqb, lt-ltb}
-use Rattle.ground.specs.Choice.{bit}
+use Rattle.ground.proofs.Names.{ℕ, _+_, _*_, _/_, _%_, _^_, _<_, arith, true, false, _≡_, refl, _∙_, eq-eqb, ne-eqb, lt-ltb, bit}
 use Rattle.words.specs.Addresses.{wordOf}
 use Rattle.words.specs.declared.Word.{Word}
 use Rattle.words.specs.declared.Word.the-variants.{Write, Read}

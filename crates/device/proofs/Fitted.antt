@@ -1,7 +1,6 @@
 -- Nothing that a driver is given changes its fitted byte.
 -- Assumes nothing.
-use Prim.Native.Nat.{ℕ}
-use mathlib.Core.Path.{_≡_, refl}
+use Rattle.ground.proofs.Names.{ℕ, _≡_, refl}
 use Rattle.words.specs.Addresses.{wordOf}
 use Rattle.words.specs.declared.Word.{Word}
 use Rattle.words.specs.declared.Word.the-variants.{Write, Read}

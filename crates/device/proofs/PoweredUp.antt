@@ -1,8 +1,6 @@
 -- Table 15, by computation.
 -- Assumes nothing.
-use Prim.Native.Nat.{ℕ, _+_, _*_}
-use mathlib.Core.List.{map}
-use mathlib.Core.Path.{_≡_, refl}
+use Rattle.ground.proofs.Names.{ℕ, _+_, _*_, map, _≡_, refl}
 use Rattle.device.specs.PowerUp.{powerUp}
 use Rattle.device.specs.Taken.{taken}
 use Rattle.device.specs.Table15.{table15, afterWords, full, Table15}

@@ -1,9 +1,6 @@
 -- The shift word and the answer mark that a driver is left with by the word it takes.
 -- Assumes nothing.
-use Prim.Native.Nat.{ℕ, _/_, _%_}
-use mathlib.Core.Bool.{Bool, true, false}
-use mathlib.Core.Path.{_≡_, refl}
-use Rattle.ground.specs.Choice.{if, bit}
+use Rattle.ground.proofs.Names.{ℕ, _/_, _%_, Bool, true, false, _≡_, refl, if, bit}
 use Rattle.words.specs.Addresses.{readAt, writtenAt, wordOf}
 use Rattle.words.specs.declared.Word.the-variants.{Write, Read}
 use Rattle.registers.specs.Registers.{dataOf}

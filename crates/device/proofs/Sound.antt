@@ -1,17 +1,9 @@
 -- The power-up record is sound, and each step leaves a sound record sound.
 -- Assumes nothing.
-use Prim.Native.Nat.{ℕ, _+_, _%_, _<_}
-use native.Mathlib.Omega.{arith}
-use native.Mathlib.Nat.{mod-lt}
-use mathlib.Core.Bool.{Bool, true, false, _&&_}
-use mathlib.Core.Path.{_≡_, refl}
-use lib.Dec.{ltb}
-use borrow.Author.Tests.{lt-ltb, ltb-true}
-use Rattle.ground.specs.Choice.{if}
+use Rattle.ground.proofs.Names.{ℕ, _+_, _%_, _<_, arith, mod-lt, Bool, true, false, _&&_, _≡_, refl, ltb, lt-ltb, ltb-true, if, and-left, and-right, mod-small}
 use Rattle.words.specs.Addresses.{writtenAt, readAt, wordOf}
 use Rattle.words.specs.declared.Word.{Word}
 use Rattle.words.specs.declared.Word.the-variants.{Write, Read}
-use Rattle.ground.proofs.Truth.{and-left, and-right, mod-small}
 use Rattle.keys.specs.Keys.{scannedKeys}
 use Rattle.keys.proofs.Sound.{scanned-sound}
 use Rattle.blink.specs.Blink.{advanced}

@@ -1,8 +1,6 @@
 -- What writes leave, digit by digit.
 -- Assumes nothing.
-use Prim.Native.Nat.{ℕ}
-use mathlib.Core.Path.{_≡_, refl}
-use lib.ListN.{replicate, set}
+use Rattle.ground.proofs.Names.{ℕ, _≡_, refl, replicate, set}
 use Rattle.words.specs.declared.Plane.{Plane}
 use Rattle.words.specs.declared.Plane.the-variants.{P0, P1}
 use Rattle.digits.specs.Digits.{planeOf, digitWritten, bothWritten, cleared}

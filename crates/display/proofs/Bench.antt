@@ -1,7 +1,6 @@
 -- The examples of the display, by computation.
 -- Assumes nothing.
-use mathlib.Core.Path.{refl}
-use Rattle.ground.specs.Lists.{Agree}
+use Rattle.ground.proofs.Names.{refl, Agree}
 use Rattle.device.specs.Taken.{taken}
 use Rattle.display.specs.Examples.{rows, WireExamples, segmentRows, Examples}
 

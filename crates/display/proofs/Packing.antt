@@ -1,16 +1,6 @@
 -- A pin's byte of a packed row and the segments that aren't lit is the number of the pin by the wiring table.
 -- Assumes nothing.
-use Prim.Native.Nat.{ℕ, zero, suc, _+_, _-_, _*_, _/_, _%_, _^_, _<_}
-use native.Mathlib.Omega.{arith}
-use mathlib.Core.Bool.{Bool, true, false, not, _&&_, _||_, Bool·beq}
-use mathlib.Core.Path.{_≡_, refl, ap, sym, _∙_}
-use lib.Bits.{bitAnd, bitOr, and-le-r, and-zero-r, or-zero-l, or-zero-r, and-mask}
-use lib.Dec.{eqb, ltb}
-use borrow.Author.Tests.{eqb-true, lt-ltb, ltb-true, ltb-false}
-use Rattle.ground.specs.Choice.{if, bit}
-use Rattle.ground.proofs.Below.{all, all-at}
-use Rattle.ground.proofs.Bits.{low-bit, high-bit, not-bit}
-use Rattle.ground.proofs.Truth.{same}
+use Rattle.ground.proofs.Names.{ℕ, zero, suc, _+_, _-_, _*_, _/_, _%_, _^_, _<_, arith, Bool, true, false, not, _&&_, _||_, Bool·beq, _≡_, refl, ap, sym, _∙_, bitAnd, bitOr, and-le-r, and-zero-r, or-zero-l, or-zero-r, and-mask, eqb, ltb, eqb-true, lt-ltb, ltb-true, ltb-false, if, bit, all, all-at, low-bit, high-bit, not-bit, same}
 use Rattle.wiring.specs.Segments.{Light, nothing, glyph, point, first, second, lightOf, isLight, isSegment}
 use Rattle.wiring.specs.Wiring.{Wire, cathode, notDriven, carries, wireAt}
 use Rattle.wiring.specs.Table.{lightEntry, wireEntry}

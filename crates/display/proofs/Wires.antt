@@ -1,17 +1,6 @@
 -- A pin by its entry of the wiring table is the pin that the rule gives.
 -- Assumes nothing.
-use Prim.Native.Nat.{ℕ, _+_, _-_, _^_, _<_}
-use native.Mathlib.Omega.{arith}
-use mathlib.Core.Bool.{Bool, true, false, _||_}
-use mathlib.Core.List.{List}
-use mathlib.Core.Path.{_≡_, refl, ap, _∙_}
-use lib.Dec.{eqb, ltb}
-use lib.ListN.{getD}
-use borrow.Author.Tests.{lt-ltb, ltb-true}
-use Rattle.ground.specs.Choice.{if, bit}
-use Rattle.ground.specs.Lists.{tabulate}
-use Rattle.ground.proofs.Below.{all, all-at}
-use Rattle.ground.proofs.Lists.{tabulate-ext}
+use Rattle.ground.proofs.Names.{ℕ, _+_, _-_, _^_, _<_, arith, Bool, true, false, _||_, List, _≡_, refl, ap, _∙_, eqb, ltb, getD, lt-ltb, ltb-true, if, bit, tabulate, all, all-at, tabulate-ext}
 use Rattle.device.specs.declared.Device.{Device}
 use Rattle.wiring.specs.Segments.{Segment, none, listOf, Light, nothing, glyph, point, first, second, lightOf, isLight}
 use Rattle.wiring.specs.Wiring.{cathode, notDriven, carries, digitOf, partner, place, ruleAt, wireAt}

@@ -1,15 +1,6 @@
 -- The segments of a hex digit are those of Table 11, none where it is blank, by one computed test over all bytes.
 -- Assumes nothing.
-use Prim.Native.Nat.{ℕ, _+_, _%_, _<_}
-use native.Mathlib.Omega.{arith}
-use mathlib.Core.Bool.{Bool, true, false, Bool·beq}
-use mathlib.Core.Path.{_≡_, refl}
-use lib.Dec.{eqb, ltb, lit<}
-use lib.ListN.{getD}
-use borrow.Author.Tests.{eqb-true, ltb-true}
-use Rattle.ground.specs.Choice.{if, bit}
-use Rattle.ground.proofs.Below.{all, all-at}
-use Rattle.ground.proofs.Truth.{same}
+use Rattle.ground.proofs.Names.{ℕ, _+_, _%_, _<_, arith, Bool, true, false, Bool·beq, _≡_, refl, eqb, ltb, lit<, getD, eqb-true, ltb-true, if, bit, all, all-at, same}
 use Rattle.wiring.specs.PackedRows.{byteOf, packed}
 use Rattle.glyphs.specs.Glyphs.{sevenLit}
 use Rattle.glyphs.specs.Masks.{hexFont, hexSegments, sevenSegments}

@@ -1,16 +1,6 @@
 -- Each segment of a display's list is its bit of the lit segments.
 -- Assumes nothing.
-use Prim.Native.Nat.{ℕ, _+_, _*_, _/_, _%_, _^_, _<_}
-use native.Mathlib.Omega.{arith}
-use mathlib.Core.Bool.{Bool, true, false, true≢false}
-use mathlib.Core.List.{List}
-use mathlib.Core.Path.{_≡_, refl, ap, sym, _∙_}
-use lib.Dec.{ltb}
-use lib.ListN.{getD}
-use borrow.Author.Tests.{ltb-true}
-use Rattle.ground.specs.Choice.{bit}
-use Rattle.ground.proofs.Below.{all-at}
-use Rattle.ground.proofs.Bits.{low-bit, high-bit}
+use Rattle.ground.proofs.Names.{ℕ, _+_, _*_, _/_, _%_, _^_, _<_, arith, Bool, true, false, true≢false, List, _≡_, refl, ap, sym, _∙_, ltb, getD, ltb-true, bit, all-at, low-bit, high-bit}
 use Rattle.wiring.specs.Segments.{none, sixteen, fourteen, pair, Light, nothing, glyph, point, first, second, lightOf}
 use Rattle.wiring.specs.Wiring.{digitBy}
 use Rattle.wiring.specs.Table.{lightEntry}

@@ -4,5 +4,6 @@ pub mod Below
 pub mod Bits
 pub mod Filled
 pub mod Lists
+pub mod Names
 pub mod Tests
 pub mod Truth

@@ -1,14 +1,6 @@
 -- A word with an address of 0x20 or above, taken, leaves what `highTaken` says.
 -- Assumes nothing.
-use Prim.Native.Nat.{ℕ, _/_, _%_, _^_, _≤_, _<_}
-use native.Mathlib.Decide.{decLt, ℕ-discrete}
-use native.Mathlib.Omega.{arith}
-use mathlib.Core.Bool.{true, false}
-use mathlib.Core.Path.{_≡_}
-use lib.Dec.{eqb, ltb}
-use lib.Seq.{set-getD}
-use borrow.Author.Tests.{ltb-true, lt-ltb, le-ltb, eq-eqb, ne-eqb}
-use Rattle.ground.specs.Choice.{bit}
+use Rattle.ground.proofs.Names.{ℕ, _/_, _%_, _^_, _≤_, _<_, decLt, ℕ-discrete, arith, true, false, _≡_, eqb, ltb, set-getD, ltb-true, lt-ltb, le-ltb, eq-eqb, ne-eqb, bit}
 use Rattle.words.specs.Addresses.{highRegister, alikeAt, wordOf}
 use Rattle.words.specs.declared.Word.the-variants.{Write, Read}
 use Rattle.device.specs.Taken.{taken}

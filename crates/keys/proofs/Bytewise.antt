@@ -1,13 +1,6 @@
 -- Numbers of 32 bits by their four bytes.
 -- Assumes nothing.
-use Prim.Native.Nat.{ℕ, zero, suc, _-_, _*_, _/_, _%_, _^_, _<_}
-use native.Mathlib.Nat.{zero-div}
-use native.Mathlib.Omega.{arith}
-use mathlib.Core.Bool.{Bool, true, false, not, _||_}
-use mathlib.Core.Path.{_≡_, refl, ap, _∙_}
-use lib.Dec.{eqb}
-use lib.Bits.{bitAnd, bitOr, and-shr, and-mod, or-shr, or-mod}
-use borrow.Author.Tests.{eqb-true, eqb-false, eq-eqb, ne-eqb}
+use Rattle.ground.proofs.Names.{ℕ, zero, suc, _-_, _*_, _/_, _%_, _^_, _<_, zero-div, arith, Bool, true, false, not, _||_, _≡_, refl, ap, _∙_, eqb, bitAnd, bitOr, and-shr, and-mod, or-shr, or-mod, eqb-true, eqb-false, eq-eqb, ne-eqb}
 use Rattle.keys.specs.PackedKeys.{joined, byteAt}
 
 -- what holds at each of the four places

@@ -1,19 +1,9 @@
 -- What a scan does, key by key and group by group.
 -- Assumes nothing.
-use Prim.Native.Nat.{ℕ, _-_, _/_, _<_}
-use native.Mathlib.Nat.{zero-div}
-use native.Mathlib.Omega.{arith}
-use mathlib.Core.Bool.{Bool, true, false, _&&_, or-true, true≢false}
-use mathlib.Core.Path.{_≡_, refl, _∙_}
-use lib.Dec.{eqb, ltb}
-use lib.ListN.{getD}
-use lib.Bits.{bitAnd, and-le-l}
-use borrow.Author.Tests.{eqb-true}
-use Rattle.ground.specs.Choice.{if, bit, some}
+use Rattle.ground.proofs.Names.{ℕ, _-_, _/_, _<_, zero-div, arith, Bool, true, false, _&&_, or-true, true≢false, _≡_, refl, _∙_, eqb, ltb, getD, bitAnd, and-le-l, eqb-true, if, bit, all-at, and-bit, or-bit, not-bit, some-bit}
+use Rattle.ground.specs.Choice.{some}
 use Rattle.words.specs.declared.KeyGroup.{KeyGroup}
 use Rattle.words.specs.declared.KeyGroup.the-variants.{A, B, C, D}
-use Rattle.ground.proofs.Below.{all-at}
-use Rattle.ground.proofs.Bits.{and-bit, or-bit, not-bit, some-bit}
 use Rattle.keys.specs.Keys.{groupOf, withGroup, withInterrupt, debouncedRead, groupsOf, closedOf, newly, scannedGroup, raises, scannedKeys}
 use Rattle.keys.specs.KeyByKey.{table32, placeOf, keysOf, KeyScanned, KeyByKey}
 use Rattle.keys.specs.declared.Group.{Group}

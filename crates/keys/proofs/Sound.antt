@@ -1,9 +1,6 @@
 -- Each step leaves the interrupt one bit.
 -- Assumes nothing.
-use Prim.Native.Nat.{ℕ}
-use mathlib.Core.Bool.{true, _||_}
-use mathlib.Core.Path.{_≡_, refl}
-use Rattle.ground.proofs.Truth.{if-small}
+use Rattle.ground.proofs.Names.{ℕ, true, _||_, _≡_, refl, if-small}
 use Rattle.words.specs.declared.KeyGroup.{KeyGroup}
 use Rattle.words.specs.declared.KeyGroup.the-variants.{A, B, C, D}
 use Rattle.keys.specs.Keys.{maskWritten, debouncedRead, closedOf, raises, scannedKeys, soundKeys}

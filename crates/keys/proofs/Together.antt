@@ -1,14 +1,6 @@
 -- A scan of the four groups at once is a scan of each.
 -- Assumes nothing.
-use Prim.Native.Nat.{ℕ, _-_, _<_}
-use native.Mathlib.Omega.{arith}
-use mathlib.Core.Bool.{Bool, true, false, _||_}
-use mathlib.Core.List.{[], _∷_}
-use mathlib.Core.Path.{_≡_, ap, ap₂, _∙_}
-use lib.Dec.{ltb}
-use lib.ListN.{getD}
-use lib.Bits.{bitAnd, and-le-l, and-mask, and-zero-r}
-use Rattle.ground.specs.Choice.{if}
+use Rattle.ground.proofs.Names.{ℕ, _-_, _<_, arith, Bool, true, false, _||_, [], _∷_, _≡_, ap, ap₂, _∙_, ltb, getD, bitAnd, and-le-l, and-mask, and-zero-r, if}
 use Rattle.keys.specs.Keys.{groupsOf, closedOf, scannedGroup, raises, scannedKeys}
 use Rattle.keys.specs.PackedKeys.{joined, byteAt, configured, packed, groupAt, unpacked, newlyPacked, scannedPacked, raisesPacked}
 use Rattle.keys.specs.declared.Group.{Group}

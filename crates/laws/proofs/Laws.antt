@@ -1,16 +1,6 @@
 -- The proof of `specs/DriverLaws.antt`'s laws: a digit write sets a digit in one list or in both, and nothing else.
 -- Assumes nothing.
-use Prim.Native.Nat.{ℕ, _+_, _/_, _%_, _<_}
-use native.Mathlib.Omega.{arith}
-use mathlib.Core.Bool.{Bool, true, false, not, _||_}
-use mathlib.Core.List.{List, [], _∷_, _++_}
-use mathlib.Core.Path.{_≡_, refl, sym, ap, ap₂, _∙_}
-use lib.Dec.{eqb}
-use lib.ListN.{set}
-use lib.Seq.{set-comm}
-use borrow.Author.Tests.{eqb-true}
-use Rattle.ground.specs.Choice.{if, bit}
-use Rattle.ground.proofs.Truth.{and-left, and-right}
+use Rattle.ground.proofs.Names.{ℕ, _+_, _/_, _%_, _<_, arith, Bool, true, false, not, _||_, List, [], _∷_, _++_, _≡_, refl, sym, ap, ap₂, _∙_, eqb, set, set-comm, eqb-true, if, bit, and-left, and-right}
 use Rattle.digits.specs.declared.Planes.{Planes}
 use Rattle.registers.specs.Record.{withPlanes}
 use Rattle.registers.specs.Registers.{configured}

@@ -1,14 +1,6 @@
 -- The proof of `specs/ChainLaws.antt`'s laws: by demand 3 a driver of the chain takes its own words, one after the other.
 -- Assumes nothing.
-use Prim.Native.Nat.{ℕ, _*_, _≤_}
-use mathlib.Core.Bool.{Bool, true, _&&_}
-use mathlib.Core.List.{List, [], _∷_, _++_, map}
-use mathlib.Core.Path.{_≡_, refl, sym, ap, ap₂, _∙_}
-use lib.Dec.{eqb}
-use lib.ListN.{length}
-use borrow.Author.Tests.{eqb-true}
-use Rattle.ground.specs.Choice.{if}
-use Rattle.ground.proofs.Truth.{and-left, and-right}
+use Rattle.ground.proofs.Names.{ℕ, _*_, _≤_, Bool, true, _&&_, List, [], _∷_, _++_, map, _≡_, refl, sym, ap, ap₂, _∙_, eqb, length, eqb-true, if, and-left, and-right}
 use Rattle.device.specs.Table15.{afterWords}
 use Rattle.device.specs.Taken.{taken}
 use Rattle.device.specs.declared.Device.{Device}

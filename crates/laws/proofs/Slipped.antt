@@ -1,18 +1,6 @@
 -- The proof of `specs/SlippedAccess.antt`'s laws: an access of at least 16n clocks shifts every old bit out, and a word taken decides shift word and mark.
 -- Assumes nothing.
-use Prim.Native.Nat.{ℕ, zero, suc, _-_, _*_, _≤_, _<_}
-use native.Mathlib.Nat.{le-of-suc-le-suc, not-suc-le-zero}
-use native.Mathlib.Omega.{arith}
-use mathlib.Core.Bool.{Bool, true, false, _&&_}
-use mathlib.Core.List.{List, [], _∷_, _++_, map, append-assoc}
-use mathlib.Core.Path.{_≡_, refl, sym, ap, _∙_}
-use lib.Dec.{ltb}
-use lib.ListN.{length, take, drop, getD, replicate, length-map}
-use lib.Seq.{drop-at, take-at}
-use borrow.Author.Tests.{eqb-true}
-use Rattle.ground.specs.Lists.{tabulate}
-use Rattle.ground.proofs.Lists.{tabulate-ext}
-use Rattle.ground.proofs.Truth.{and-left, and-right}
+use Rattle.ground.proofs.Names.{ℕ, zero, suc, _-_, _*_, _≤_, _<_, le-of-suc-le-suc, not-suc-le-zero, arith, Bool, true, false, _&&_, List, [], _∷_, _++_, map, append-assoc, _≡_, refl, sym, ap, _∙_, ltb, length, take, drop, getD, replicate, length-map, drop-at, take-at, eqb-true, tabulate, tabulate-ext, and-left, and-right}
 use Rattle.refusals.specs.Refusals.{bytesFor}
 use Rattle.words.specs.Addresses.{wordOf}
 use Rattle.words.specs.declared.Word.{Word}

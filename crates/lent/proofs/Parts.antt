@@ -2,9 +2,8 @@
 --     part, rest       the first and the second of what a statement is made of
 --     envOf, typeOf    the locals at given places, and the type of one
 -- Assumes nothing.
-use Prim.Native.Nat.{ℕ, zero, suc}
-use mathlib.Core.List.{List, [], _∷_}
-use mir.Syntax.{Ty, tyUnit, Body, skip, seq, assign, block, loop, cond, switch, exit, return, call, Local, local}
+use Rattle.ground.proofs.Names.{ℕ, zero, suc, List, [], _∷_}
+use Rattle.lent.proofs.Logic.{Ty, tyUnit, Body, skip, seq, assign, block, loop, cond, switch, exit, return, Local, local, call}
 
 abbrev parts : Body → Body × Body
 parts skip = (skip, skip)

@@ -1,7 +1,6 @@
 -- The examples, by computation.
 -- Assumes nothing.
-use mathlib.Core.Path.{refl}
-use Rattle.ground.specs.Lists.{Agree}
+use Rattle.ground.proofs.Names.{refl, Agree}
 use Rattle.device.specs.Taken.{taken}
 use Rattle.look_back.specs.Stops.{lastPlace}
 use Rattle.look_back.specs.Examples.{rows, answerRows, Examples}

@@ -1,14 +1,6 @@
 -- A list of words that a driver takes, to one byte of its planes: the word at the stopping place decides it, or else the record; so the theorem.
 -- Assumes nothing.
-use Prim.Native.Nat.{ℕ, zero, suc, _-_, _<_}
-use native.Mathlib.Nat.{add-zero}
-use native.Mathlib.Omega.{arith}
-use mathlib.Core.Bool.{Bool, true, false}
-use mathlib.Core.List.{List, [], _∷_}
-use mathlib.Core.Path.{_≡_, refl, sym, ap, _∙_}
-use lib.ListN.{length, getD, drop}
-use lib.Seq.{getD-drop}
-use Rattle.ground.specs.Choice.{if}
+use Rattle.ground.proofs.Names.{ℕ, zero, suc, _-_, _<_, add-zero, arith, Bool, true, false, List, [], _∷_, _≡_, refl, sym, ap, _∙_, length, getD, drop, getD-drop, if}
 use Rattle.words.specs.declared.Plane.{Plane}
 use Rattle.words.specs.declared.Plane.the-variants.{P0, P1}
 use Rattle.digits.specs.Digits.{planeOf}

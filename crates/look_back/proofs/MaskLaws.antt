@@ -1,18 +1,6 @@
 -- The test by two masks is the test for a stop: by a word's two bytes, at every high byte and digit.
 -- Assumes nothing.
-use Prim.Native.Nat.{ℕ, _+_, _*_, _/_, _%_, _<_}
-use native.Mathlib.Omega.{arith}
-use mathlib.Core.Bool.{Bool, true, false, not, _&&_, _||_, Bool·beq}
-use mathlib.Core.List.{List}
-use mathlib.Core.Path.{_≡_, refl, sym, ap, ap₂, _∙_}
-use lib.Bits.{bitAnd, and-block, and-le-r, and-zero-r}
-use lib.Dec.{eqb}
-use lib.ListN.{getD}
-use borrow.Author.Tests.{eqb-true, eqb-false, eq-eqb, ne-eqb}
-use Rattle.ground.specs.Choice.{bit}
-use Rattle.ground.proofs.Below.{all, all-at}
-use Rattle.ground.proofs.Bits.{high-bit, low-bit}
-use Rattle.ground.proofs.Truth.{same}
+use Rattle.ground.proofs.Names.{ℕ, _+_, _*_, _/_, _%_, _<_, arith, Bool, true, false, not, _&&_, _||_, Bool·beq, List, _≡_, refl, sym, ap, ap₂, _∙_, bitAnd, and-block, and-le-r, and-zero-r, eqb, getD, eqb-true, eqb-false, eq-eqb, ne-eqb, bit, all, all-at, high-bit, low-bit, same}
 use Rattle.words.specs.declared.Plane.{Plane}
 use Rattle.words.specs.declared.Plane.the-variants.{P0, P1}
 use Rattle.look_back.specs.Stops.{firstAddress, writesTo, writesByte, clearsPlanes, stops, lastPlace, stoppingPlace}

@@ -1,13 +1,6 @@
 -- The place of the last word at which a test holds: of a word after a list, of a part of it, and of two tests that agree.
 -- Assumes nothing.
-use Prim.Native.Nat.{ℕ, zero, suc, _<_, _≤_}
-use native.Mathlib.Nat.{not-suc-le-zero, le-of-suc-le-suc}
-use native.Mathlib.Omega.{arith}
-use mathlib.Core.Bool.{Bool, true, false}
-use mathlib.Core.List.{List, [], _∷_, _++_}
-use mathlib.Core.Path.{_≡_, refl, ap, _∙_}
-use lib.ListN.{length, getD, take, drop}
-use lib.Seq.{take-suc, length-take-le}
+use Rattle.ground.proofs.Names.{ℕ, zero, suc, _<_, _≤_, not-suc-le-zero, le-of-suc-le-suc, arith, Bool, true, false, List, [], _∷_, _++_, _≡_, refl, ap, _∙_, length, getD, take, drop, take-suc, length-take-le}
 use Rattle.look_back.specs.Stops.{placeBefore, lastPlace}
 
 module _ (f : ℕ → Bool) where

@@ -1,19 +1,6 @@
 -- A word that a driver takes, to one of its planes: as it was, cleared, or with a digit set; and so to one byte, by whether the word stops.
 -- Assumes nothing.
-use Prim.Native.Nat.{ℕ, _+_, _/_, _%_, _<_, _≤_}
-use native.Mathlib.Decide.{ℕ-discrete}
-use native.Mathlib.Omega.{arith}
-use mathlib.Core.Bool.{Bool, true, false, _&&_, _||_, Bool·beq, true≢false}
-use mathlib.Core.List.{List}
-use mathlib.Core.Path.{_≡_, refl, sym, ap, _∙_}
-use lib.Dec.{eqb}
-use lib.ListN.{length, getD, set, replicate, length-set, getD-replicate}
-use lib.Seq.{getD-set-same, getD-set-other}
-use borrow.Author.Tests.{eqb-true, eqb-false, ne-eqb, le-ltb}
-use Rattle.ground.specs.Choice.{if, bit}
-use Rattle.ground.proofs.Below.{all, all-at}
-use Rattle.ground.proofs.Bits.{low-bit}
-use Rattle.ground.proofs.Truth.{same}
+use Rattle.ground.proofs.Names.{ℕ, _+_, _/_, _%_, _<_, _≤_, ℕ-discrete, arith, Bool, true, false, _&&_, _||_, Bool·beq, true≢false, List, _≡_, refl, sym, ap, _∙_, eqb, length, getD, set, replicate, length-set, getD-replicate, getD-set-same, getD-set-other, eqb-true, eqb-false, ne-eqb, le-ltb, if, bit, all, all-at, low-bit, same}
 use Rattle.words.specs.Addresses.{highRegister, writtenAt, readAt}
 use Rattle.words.specs.declared.Plane.{Plane}
 use Rattle.words.specs.declared.Plane.the-variants.{P0, P1}

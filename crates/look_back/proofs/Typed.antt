@@ -1,8 +1,6 @@
 -- What a record's type says of its planes: sixteen digits in each.
 -- Assumes nothing.
-use mathlib.Core.List.{List}
-use mathlib.Core.Path.{sym, _∙_}
-use lib.ListN.{length-map}
+use Rattle.ground.proofs.Names.{List, sym, _∙_, length-map}
 use mir.Val.{Val}
 use denote.Laws.{Is}
 use denote.Struct.Declared as Declared

@@ -3,18 +3,7 @@
 --     access-whole                                     the same where all the records are passed at once
 --     length-next                                      how many words the wire leaves
 -- Assumes nothing.
-use Prim.Native.Nat.{ℕ, _≤_, _<_}
-use native.Mathlib.Omega.{arith}
-use mathlib.Core.Bool.{Bool, true, false, _&&_}
-use mathlib.Core.List.{List, [], _∷_, _++_, map, append-nil}
-use mathlib.Core.Path.{_≡_, refl, sym, ap, _∙_}
-use lib.Dec.{eqb, leb}
-use lib.ListN.{length, getD, take, drop, replicate, length-append, length-drop, length-map, List·getD-append, List·getD-map}
-use lib.Seq.{take-at, take-length, drop-length, ext-getD}
-use borrow.Author.Tests.{eqb-true, eq-eqb, ne-eqb, le-leb}
-use Rattle.ground.specs.Choice.{if}
-use Rattle.ground.specs.Lists.{tabulate}
-use Rattle.ground.proofs.Lists.{length-tabulate, getD-tabulate, tabulate-ext}
+use Rattle.ground.proofs.Names.{ℕ, _≤_, _<_, arith, Bool, true, false, _&&_, List, [], _∷_, _++_, map, append-nil, _≡_, refl, sym, ap, _∙_, eqb, leb, length, getD, take, drop, replicate, length-append, length-drop, length-map, List·getD-append, List·getD-map, take-at, take-length, drop-length, ext-getD, eqb-true, eq-eqb, ne-eqb, le-leb, if, tabulate, length-tabulate, getD-tabulate, tabulate-ext}
 use Rattle.refusals.specs.Refusals.{bytesFor, chainRefusal, soundRefusal, sizeRefusal}
 use Rattle.refusals.proofs.RefusalLaws.{first-zero, found-last}
 use Rattle.wire.specs.Shift.{fits, wordsAfter, roomAfter}

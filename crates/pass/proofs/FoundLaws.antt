@@ -4,17 +4,7 @@
 --     in-range, own-zero                           what a number of 0 tells of the driver and the argument
 --     give-served, give-refused, ask-served, ask-refused       the outcome
 -- Assumes nothing.
-use Prim.Native.Nat.{ℕ, _-_, _≤_, _<_}
-use native.Mathlib.Omega.{arith}
-use mathlib.Core.Bool.{Bool, true, false, _&&_}
-use mathlib.Core.List.{List, [], _∷_}
-use mathlib.Core.Path.{_≡_, refl, ap, _∙_}
-use lib.Dec.{eqb, leb, ltb}
-use lib.ListN.{length, getD, set, take}
-use lib.Seq.{take-length}
-use borrow.Author.Tests.{ne-eqb, leb-true, ltb-true}
-use Rattle.ground.specs.Choice.{if}
-use Rattle.ground.proofs.Truth.{passed, and-right}
+use Rattle.ground.proofs.Names.{ℕ, _-_, _≤_, _<_, arith, Bool, true, false, _&&_, List, [], _∷_, _≡_, refl, ap, _∙_, eqb, leb, ltb, length, getD, set, take, take-length, ne-eqb, leb-true, ltb-true, if, passed, and-right}
 use Rattle.refusals.specs.Refusals.{chainRefusal, driverRefusal, soundRefusal, firstOf}
 use Rattle.refusals.proofs.RefusalLaws.{first-zero, found-last}
 use Rattle.device.specs.PowerUp.{powerUp}

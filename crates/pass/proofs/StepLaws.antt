@@ -1,12 +1,6 @@
 -- A pass over the records, one by one: the shift words that it copies, and the words that the records take.
 -- Assumes nothing.
-use Prim.Native.Nat.{ℕ, _+_, _≤_, _<_}
-use native.Mathlib.Omega.{arith}
-use mathlib.Core.List.{List}
-use mathlib.Core.Path.{_≡_, ap, _∙_}
-use lib.ListN.{length, getD, set, length-append, length-drop}
-use Rattle.ground.proofs.Lists.{length-tabulate}
-use Rattle.ground.proofs.Filled.{tabulate-none, tabulate-step, tabulate-rest}
+use Rattle.ground.proofs.Names.{ℕ, _+_, _≤_, _<_, arith, List, _≡_, ap, _∙_, length, getD, set, length-append, length-drop, length-tabulate, tabulate-none, tabulate-step, tabulate-rest}
 use Rattle.device.specs.PowerUp.{powerUp}
 use Rattle.device.specs.Taken.{taken}
 use Rattle.device.specs.declared.Device.{Device}

@@ -1,6 +1,6 @@
 -- What the type of a record says of its bytes.
 -- Assumes nothing.
-use mathlib.Core.List.{List}
+use Rattle.ground.proofs.Names.{List}
 use mir.Val.{Val}
 use denote.Laws.{Is}
 use denote.Struct.Declared as Declared

@@ -2,18 +2,7 @@
 --     widths-start, widths-more, all-start, all-more      the records one by one
 --     fit-all                                             a pass over records whose bytes are bytes
 -- Assumes nothing.
-use Prim.Native.Nat.{ℕ, _+_, _/_, _%_, _^_, _<_}
-use native.Mathlib.Numerals.{add-one}
-use native.Mathlib.Decide.{decLt}
-use native.Mathlib.Omega.{arith}
-use mathlib.Core.Bool.{Bool, true, false, _&&_}
-use mathlib.Core.List.{List, [], _∷_, _++_}
-use mathlib.Core.Path.{_≡_, refl, sym, ap, ap₂, _∙_}
-use lib.Bits.{bitOr, or-lt, or-add-and, and-le-l, and-le-r, or-shr, or-mod}
-use lib.Dec.{ltb}
-use lib.ListN.{length, getD, take}
-use lib.Seq.{take-suc}
-use borrow.Author.Tests.{lt-ltb, le-ltb}
+use Rattle.ground.proofs.Names.{ℕ, _+_, _/_, _%_, _^_, _<_, add-one, decLt, arith, Bool, true, false, _&&_, List, [], _∷_, _++_, _≡_, refl, sym, ap, ap₂, _∙_, bitOr, or-lt, or-add-and, and-le-l, and-le-r, or-shr, or-mod, ltb, length, getD, take, take-suc, lt-ltb, le-ltb}
 use Rattle.device.specs.PowerUp.{powerUp}
 use Rattle.device.specs.Sound.{soundOf}
 use Rattle.device.specs.declared.Device.{Device}

@@ -1,13 +1,6 @@
 -- The drivers of a chain one after the other, where there are wanted contents for each: the accesses of its list, and whether it accepts a list.
 -- Assumes nothing.
-use Prim.Native.Nat.{ℕ, zero, suc, _*_, _/_, _%_, _<_, _≤_, max}
-use native.Mathlib.Omega.{arith}
-use mathlib.Core.Bool.{Bool, true, _&&_}
-use mathlib.Core.List.{List}
-use mathlib.Core.Path.{_≡_, refl, ap, ap₂}
-use lib.Dec.{eqb}
-use lib.ListN.{length}
-use borrow.Author.Tests.{lt-ltb}
+use Rattle.ground.proofs.Names.{ℕ, zero, suc, _*_, _/_, _%_, _<_, _≤_, max, arith, Bool, true, _&&_, List, _≡_, refl, ap, ap₂, eqb, length, lt-ltb}
 use Rattle.device.specs.declared.Device.{Device}
 use Rattle.plans.specs.Check.{acceptedList}
 use Rattle.plans.specs.Plan.{largest, accesses}

@@ -1,16 +1,6 @@
 -- One driver's words by the planes alone, word by word, and digits compared one by one.
 -- Assumes nothing.
-use Prim.Native.Nat.{ℕ, zero, suc, _+_, _*_, _/_, _<_, _≤_}
-use native.Mathlib.Nat.{div-add-mod', zero-add}
-use native.Mathlib.Omega.{arith}
-use mathlib.Core.Bool.{Bool, true, false, _&&_}
-use mathlib.Core.List.{List, _∷_}
-use mathlib.Core.Path.{_≡_, refl, ap₂, _∙_}
-use lib.Dec.{eqb}
-use lib.ListN.{length, getD, drop, drop-of-length-le}
-use lib.Seq.{drop-cons}
-use borrow.Author.Tests.{ne-eqb}
-use Rattle.ground.proofs.Lists.{length-tabulate, getD-tabulate}
+use Rattle.ground.proofs.Names.{ℕ, zero, suc, _+_, _*_, _/_, _<_, _≤_, div-add-mod', zero-add, arith, Bool, true, false, _&&_, List, _∷_, _≡_, refl, ap₂, _∙_, eqb, length, getD, drop, drop-of-length-le, drop-cons, ne-eqb, length-tabulate, getD-tabulate}
 use Rattle.digits.specs.declared.Planes.{Planes}
 use Rattle.controls.specs.declared.Config.{Config}
 use Rattle.device.specs.Table15.{afterWords}

@@ -1,18 +1,6 @@
 -- The list with every driver's words in it is the planner's list, and the room after it as it was.
 -- Assumes nothing.
-use Prim.Native.Nat.{ℕ, zero, suc, _+_, _*_, _-_, _/_, _%_, _<_, _≤_}
-use native.Mathlib.Nat.{mod-lt, div-lt-iff-lt-mul, div-add-mod'}
-use native.Mathlib.Omega.{arith}
-use native.Mathlib.Decide.{ℕ-discrete}
-use mathlib.Core.Bool.{Bool, true, false}
-use mathlib.Core.List.{List, [], _∷_, _++_}
-use mathlib.Core.Path.{_≡_, refl, sym, _∙_}
-use lib.Dec.{leb}
-use lib.ListN.{length, getD, take, drop, replicate, length-append, length-replicate, take-append-drop}
-use lib.Seq.{ext-getD, getD-take, length-take-le}
-use borrow.Author.Tests.{lt-ltb, le-leb}
-use Rattle.ground.specs.Choice.{if}
-use Rattle.ground.proofs.Lists.{length-tabulate, getD-tabulate}
+use Rattle.ground.proofs.Names.{ℕ, zero, suc, _+_, _*_, _-_, _/_, _%_, _<_, _≤_, mod-lt, div-lt-iff-lt-mul, div-add-mod', arith, ℕ-discrete, Bool, true, false, List, [], _∷_, _++_, _≡_, refl, sym, _∙_, leb, length, getD, take, drop, replicate, length-append, length-replicate, take-append-drop, ext-getD, getD-take, length-take-le, lt-ltb, le-leb, if, length-tabulate, getD-tabulate}
 use Rattle.device.specs.PowerUp.{powerUp}
 use Rattle.device.specs.declared.Device.{Device}
 use Rattle.plans.specs.Lists.{wantedAt}

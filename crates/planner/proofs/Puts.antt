@@ -1,13 +1,6 @@
 -- Words put one after the other into a list of accesses.
 -- Assumes nothing.
-use Prim.Native.Nat.{ℕ, zero, suc, _+_, _*_, _<_, _≤_}
-use native.Mathlib.Nat.{suc-mul, add-mul, mul-le-mul-right}
-use native.Mathlib.Omega.{arith}
-use native.Mathlib.Decide.{ℕ-discrete}
-use mathlib.Core.List.{List, [], _∷_, _++_}
-use mathlib.Core.Path.{_≡_, refl, _∙_}
-use lib.ListN.{length, getD, set, drop, length-set}
-use lib.Seq.{getD-set-same, getD-set-other, drop-set-lt}
+use Rattle.ground.proofs.Names.{ℕ, zero, suc, _+_, _*_, _<_, _≤_, suc-mul, add-mul, mul-le-mul-right, arith, ℕ-discrete, List, [], _∷_, _++_, _≡_, refl, _∙_, length, getD, set, drop, length-set, getD-set-same, getD-set-other, drop-set-lt}
 use Rattle.digits.specs.declared.Planes.{Planes}
 use Rattle.plans.specs.Least.{total, needAt, plain}
 use Rattle.planner.specs.OneDriver.{put}

@@ -1,14 +1,6 @@
 -- What the test of room says, and the list with a plan's words in it.
 -- Assumes nothing.
-use Prim.Native.Nat.{ℕ, _+_, _*_, _-_, _/_, _<_, _≤_}
-use native.Mathlib.Omega.{arith}
-use mathlib.Core.Bool.{true, _&&_}
-use mathlib.Core.List.{List, _∷_, _++_}
-use mathlib.Core.Path.{_≡_}
-use lib.Dec.{ltb, leb}
-use lib.ListN.{length, set, replicate}
-use borrow.Author.Tests.{ltb-true, leb-true, lt-ltb, le-ltb, le-leb, lt-leb}
-use Rattle.ground.proofs.Truth.{and-left, and-right}
+use Rattle.ground.proofs.Names.{ℕ, _+_, _*_, _-_, _/_, _<_, _≤_, arith, true, _&&_, List, _∷_, _++_, _≡_, ltb, leb, length, set, replicate, ltb-true, leb-true, lt-ltb, le-ltb, le-leb, lt-leb, and-left, and-right}
 use Rattle.controls.specs.declared.Config.{Config}
 use Rattle.digits.specs.Digits.{cleared}
 use Rattle.digits.specs.declared.Planes.{Planes}

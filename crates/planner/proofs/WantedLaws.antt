@@ -1,10 +1,6 @@
 -- The wanted contents of one place, digit by digit, in the bytes of all.
 -- Assumes nothing.
-use Prim.Native.Nat.{ℕ, _+_, _*_, _<_}
-use mathlib.Core.List.{List}
-use mathlib.Core.Path.{_≡_}
-use lib.ListN.{getD, drop}
-use lib.Seq.{getD-take, getD-drop}
+use Rattle.ground.proofs.Names.{ℕ, _+_, _*_, _<_, List, _≡_, getD, drop, getD-take, getD-drop}
 use Rattle.plans.specs.Lists.{wantedAt}
 
 pub wanted-p0 : (wanted : List ℕ) (i k : ℕ) → k < 16 → getD (wantedAt wanted i .p0) k 0 ≡ getD wanted (32 * i + k) 0

@@ -1,14 +1,6 @@
 -- An allowed word, to a driver's planes, is nothing, a write to one digit, or a clear; all else of the registers stays.
 -- Assumes nothing.
-use Prim.Native.Nat.{ℕ, _/_, _%_, _^_, _<_, _≤_}
-use native.Mathlib.Omega.{arith}
-use mathlib.Core.Bool.{Bool, true, false, not, _&&_, _||_}
-use mathlib.Core.List.{List, [], _∷_}
-use mathlib.Core.Path.{_≡_, refl, ap, _∙_}
-use lib.Dec.{eqb}
-use borrow.Author.Tests.{eqb-true, ne-eqb, le-ltb, not-true}
-use Rattle.ground.specs.Choice.{if, bit}
-use Rattle.ground.proofs.Truth.{and-left, and-right}
+use Rattle.ground.proofs.Names.{ℕ, _/_, _%_, _^_, _<_, _≤_, arith, Bool, true, false, not, _&&_, _||_, List, [], _∷_, _≡_, refl, ap, _∙_, eqb, eqb-true, ne-eqb, le-ltb, not-true, if, bit, and-left, and-right}
 use Rattle.words.specs.Addresses.{wordOf, highRegister}
 use Rattle.words.specs.declared.Register.the-variants.{Configuration}
 use Rattle.words.specs.declared.Word.the-variants.{Write}

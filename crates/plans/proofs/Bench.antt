@@ -1,7 +1,6 @@
 -- The examples, by computation.
 -- Assumes nothing.
-use mathlib.Core.Path.{refl}
-use Rattle.ground.specs.Lists.{tabulate, Agree}
+use Rattle.ground.proofs.Names.{refl, tabulate, Agree}
 use Rattle.device.specs.Taken.{taken}
 use Rattle.plans.specs.Words.{every}
 use Rattle.plans.specs.Check.{below, same, acceptedWords, acceptedList}

@@ -1,16 +1,6 @@
 -- The check accepts exactly the accepted lists.
 -- Assumes nothing.
-use Prim.Native.Nat.{ℕ, zero, suc, _%_, _<_}
-use native.Mathlib.Omega.{arith}
-use native.Mathlib.Decide.{ℕ-discrete}
-use mathlib.Core.Bool.{Bool, true, _&&_}
-use mathlib.Core.List.{List}
-use mathlib.Core.Path.{_≡_, refl, sym, _∙_}
-use lib.Dec.{eqb}
-use lib.ListN.{length, getD}
-use lib.Seq.{ext-getD}
-use borrow.Author.Tests.{eqb-true, eq-eqb}
-use Rattle.ground.proofs.Truth.{and-left, and-right}
+use Rattle.ground.proofs.Names.{ℕ, zero, suc, _%_, _<_, arith, ℕ-discrete, Bool, true, _&&_, List, _≡_, refl, sym, _∙_, eqb, length, getD, ext-getD, eqb-true, eq-eqb, and-left, and-right}
 use Rattle.digits.specs.declared.Planes.{Planes}
 use Rattle.device.specs.Table15.{afterWords}
 use Rattle.device.specs.declared.Device.{Device}

@@ -1,17 +1,6 @@
 -- The planner's list for a chain is accepted, and none accepted is shorter.
 -- Assumes nothing.
-use Prim.Native.Nat.{ℕ, zero, suc, _+_, _*_, _/_, _%_, _<_, _≤_, max}
-use native.Mathlib.Nat.{mul-add-div-right, mul-add-mod-self-right, mul-div-cancel, mul-mod-left, mul-le-mul-right, div-eq-of-lt, mod-eq-of-lt, suc-mul, add-zero, div-add-mod'}
-use native.Mathlib.Omega.{arith}
-use native.Mathlib.Decide.{decLt}
-use mathlib.Core.Bool.{Bool, true}
-use mathlib.Core.List.{List, [], _∷_, _++_}
-use mathlib.Core.Path.{_≡_, refl, sym, ap, ap₂, _∙_}
-use lib.ListN.{length, getD, take, drop, length-take, length-drop, List·getD-eq-default}
-use lib.Seq.{getD-take, getD-drop}
-use Rattle.ground.specs.Lists.{tabulate}
-use Rattle.ground.proofs.Truth.{and-left, and-right}
-use Rattle.ground.proofs.Lists.{length-tabulate, getD-tabulate, tabulate-ext}
+use Rattle.ground.proofs.Names.{ℕ, zero, suc, _+_, _*_, _/_, _%_, _<_, _≤_, max, mul-add-div-right, mul-add-mod-self-right, mul-div-cancel, mul-mod-left, mul-le-mul-right, div-eq-of-lt, mod-eq-of-lt, suc-mul, add-zero, div-add-mod', arith, decLt, Bool, true, List, [], _∷_, _++_, _≡_, refl, sym, ap, ap₂, _∙_, length, getD, take, drop, length-take, length-drop, List·getD-eq-default, getD-take, getD-drop, tabulate, and-left, and-right, length-tabulate, getD-tabulate, tabulate-ext}
 use Rattle.digits.specs.declared.Planes.{Planes}
 use Rattle.device.specs.declared.Device.{Device}
 use Rattle.plans.specs.Words.{allowed, every, Accepted, Wanted}

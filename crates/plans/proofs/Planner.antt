@@ -1,17 +1,6 @@
 -- The planner's own words for one driver are accepted, and as many as the least number.
 -- Assumes nothing.
-use Prim.Native.Nat.{ℕ, zero, suc, _+_, _*_, _/_, _%_, _^_, _<_, _≤_}
-use native.Mathlib.Omega.{arith}
-use mathlib.Core.Bool.{Bool, true, false, _&&_}
-use mathlib.Core.List.{List, [], _∷_, _++_, append-assoc, append-nil}
-use mathlib.Core.Path.{_≡_, refl, ap, _∙_}
-use lib.Dec.{eqb, ltb}
-use lib.ListN.{length, getD, set, take, drop, length-append, drop-of-length-le}
-use lib.Seq.{take-suc, drop-cons, set-at, length-take-le, take-all}
-use borrow.Author.Tests.{eqb-true, ne-eqb, ltb-true, ltb-false}
-use Rattle.ground.specs.Choice.{if}
-use Rattle.ground.proofs.Truth.{and-left, and-right}
-use Rattle.ground.proofs.Below.{all, all-at}
+use Rattle.ground.proofs.Names.{ℕ, zero, suc, _+_, _*_, _/_, _%_, _^_, _<_, _≤_, arith, Bool, true, false, _&&_, List, [], _∷_, _++_, append-assoc, append-nil, _≡_, refl, ap, _∙_, eqb, ltb, length, getD, set, take, drop, length-append, drop-of-length-le, take-suc, drop-cons, set-at, length-take-le, take-all, eqb-true, ne-eqb, ltb-true, ltb-false, if, and-left, and-right, all, all-at}
 use Rattle.words.specs.declared.Plane.the-variants.{P0, P1}
 use Rattle.digits.specs.Digits.{cleared}
 use Rattle.digits.specs.declared.Planes.{Planes}

@@ -1,17 +1,6 @@
 -- The least number of words falls by at most one with each word, and is 0 at the wanted planes; so no list of fewer words gets there.
 -- Assumes nothing.
-use Prim.Native.Nat.{ℕ, zero, suc, _+_, _*_, _<_, _≤_}
-use native.Mathlib.Nat.{suc-mul}
-use native.Mathlib.Omega.{arith}
-use native.Mathlib.Decide.{ℕ-discrete}
-use mathlib.Core.Bool.{Bool, true, false}
-use mathlib.Core.List.{List, [], _∷_}
-use mathlib.Core.Logic.{_≢_}
-use mathlib.Core.Path.{_≡_, refl, sym, _∙_}
-use lib.Dec.{eqb}
-use lib.ListN.{length, getD, set, length-set}
-use lib.Seq.{getD-set-same, getD-set-other}
-use borrow.Author.Tests.{eqb-true, eq-eqb}
+use Rattle.ground.proofs.Names.{ℕ, zero, suc, _+_, _*_, _<_, _≤_, suc-mul, arith, ℕ-discrete, Bool, true, false, List, [], _∷_, _≢_, _≡_, refl, sym, _∙_, eqb, length, getD, set, length-set, getD-set-same, getD-set-other, eqb-true, eq-eqb}
 use Rattle.words.specs.declared.Plane.the-variants.{P0, P1}
 use Rattle.digits.specs.declared.Planes.{Planes}
 use Rattle.device.specs.declared.Device.{Device}

@@ -1,17 +1,6 @@
 -- What GPIO data reads, port by port.
 -- Assumes nothing.
-use Prim.Native.Nat.{ℕ, _*_, _/_, _%_, _<_}
-use native.Mathlib.Nat.{mod-lt, zero-lt-suc}
-use native.Mathlib.Omega.{arith}
-use mathlib.Core.Bool.{Bool, true, false, not, _&&_, _||_, Bool·beq}
-use mathlib.Core.Path.{_≡_, refl, ap₂, _∙_}
-use lib.Bits.{bitAnd, bitOr, and-le-l, or-lt}
-use lib.Dec.{eqb, ltb}
-use borrow.Author.Tests.{ltb-true}
-use Rattle.ground.specs.Choice.{if, bit, odd}
-use Rattle.ground.proofs.Below.{all, all-at}
-use Rattle.ground.proofs.Truth.{same}
-use Rattle.ground.proofs.Bits.{and-bit, or-bit, not-bit, low-bit}
+use Rattle.ground.proofs.Names.{ℕ, _*_, _/_, _%_, _<_, mod-lt, zero-lt-suc, arith, Bool, true, false, not, _&&_, _||_, Bool·beq, _≡_, refl, ap₂, _∙_, bitAnd, bitOr, and-le-l, or-lt, eqb, ltb, ltb-true, if, bit, odd, all, all-at, same, and-bit, or-bit, not-bit, low-bit}
 use Rattle.keys.specs.Keys.{groupsOf}
 use Rattle.ports.specs.Ports.{freePorts, gpioBits, irqLevel}
 use Rattle.ports.specs.PortByPort.{portLevel, PortByPort}

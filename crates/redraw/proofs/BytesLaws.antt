@@ -1,17 +1,6 @@
 -- The bytes of one access of a list: where the list lacks it, what a call that is served has, and the examples by computation.
 -- Assumes nothing.
-use Prim.Native.Nat.{ℕ, _+_, _*_, _/_, _<_, _≤_}
-use native.Mathlib.Nat.{div-lt-iff-lt-mul, le-div-iff-mul-le, suc-mul}
-use native.Mathlib.Numerals.{add-one}
-use native.Mathlib.Omega.{arith}
-use mathlib.Core.Bool.{Bool, true, false, _&&_}
-use mathlib.Core.List.{[], _∷_}
-use mathlib.Core.Path.{_≡_, refl}
-use lib.Dec.{ltb}
-use borrow.Author.Tests.{lt-ltb, le-ltb, ltb-true, ltb-false}
-use Rattle.ground.specs.Choice.{if}
-use Rattle.ground.specs.Lists.{Agree}
-use Rattle.ground.proofs.Truth.{passed, and-right}
+use Rattle.ground.proofs.Names.{ℕ, _+_, _*_, _/_, _<_, _≤_, div-lt-iff-lt-mul, le-div-iff-mul-le, suc-mul, add-one, arith, Bool, true, false, _&&_, [], _∷_, _≡_, refl, ltb, lt-ltb, le-ltb, ltb-true, ltb-false, if, Agree, passed, and-right}
 use Rattle.refusals.specs.Refusals.{chainRefusal}
 use Rattle.refusals.proofs.RefusalLaws.{first-zero}
 use Rattle.wire.specs.Line.{wordBytes}

@@ -2,16 +2,7 @@
 --     early-is, own-is     the number before 13.        own-zero       what a number of 0 tells of the chain and of the wanted contents
 --     plan-outcome, check-outcome      the outcomes
 -- Assumes nothing.
-use Prim.Native.Nat.{ℕ, _*_, _%_, _<_, _≤_}
-use native.Mathlib.Omega.{arith}
-use mathlib.Core.Bool.{Bool, true, false, _&&_}
-use mathlib.Core.List.{List, [], _∷_, _++_}
-use mathlib.Core.Path.{_≡_, refl, sym, ap, _∙_}
-use lib.Dec.{eqb, ltb}
-use lib.ListN.{length, drop}
-use borrow.Author.Tests.{eqb-true, ltb-true, ltb-false, le-leb, lt-ltb}
-use Rattle.ground.specs.Choice.{if}
-use Rattle.ground.proofs.Truth.{passed, and-left}
+use Rattle.ground.proofs.Names.{ℕ, _*_, _%_, _<_, _≤_, arith, Bool, true, false, _&&_, List, [], _∷_, _++_, _≡_, refl, sym, ap, _∙_, eqb, ltb, length, drop, eqb-true, ltb-true, ltb-false, le-leb, lt-ltb, if, passed, and-left}
 use Rattle.refusals.specs.Refusals.{chainRefusal, driverRefusal, soundRefusal, wantedRefusal, listRefusal, firstOf}
 use Rattle.refusals.proofs.RefusalLaws.{first-zero, first-last, found-last}
 use Rattle.device.specs.declared.Device.{Device}

@@ -1,18 +1,6 @@
 -- An accepted list, given to the chain access by access, ends in the wanted planes: each driver is as it would be alone (demand 3).
 -- Assumes nothing.
-use Prim.Native.Nat.{ℕ, zero, suc, _+_, _*_, _-_, _/_, _%_, _<_, _≤_}
-use native.Mathlib.Nat.{mod-eq-of-lt, div-add-mod', suc-mul}
-use native.Mathlib.Omega.{arith}
-use mathlib.Core.Bool.{Bool, true, _&&_, _||_}
-use mathlib.Core.List.{List, [], _∷_, _++_}
-use mathlib.Core.Path.{_≡_, refl, sym, ap, _∙_}
-use lib.Dec.{eqb}
-use lib.ListN.{length, getD, take, drop, length-drop}
-use lib.Seq.{getD-take, getD-drop, length-take-le}
-use borrow.Author.Tests.{eqb-true, lt-ltb, le-ltb}
-use Rattle.ground.specs.Choice.{if}
-use Rattle.ground.specs.Lists.{tabulate}
-use Rattle.ground.proofs.Truth.{and-left, and-right}
+use Rattle.ground.proofs.Names.{ℕ, zero, suc, _+_, _*_, _-_, _/_, _%_, _<_, _≤_, mod-eq-of-lt, div-add-mod', suc-mul, arith, Bool, true, _&&_, _||_, List, [], _∷_, _++_, _≡_, refl, sym, ap, _∙_, eqb, length, getD, take, drop, length-drop, getD-take, getD-drop, length-take-le, eqb-true, lt-ltb, le-ltb, if, tabulate, and-left, and-right}
 use Rattle.wire.specs.Line.{wordBytes}
 use Rattle.wire.proofs.BitLaws.{value-bits}
 use Rattle.wire.proofs.LineLaws.{string-bytes, length-wordBytes}

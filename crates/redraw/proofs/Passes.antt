@@ -5,28 +5,10 @@
 --     passes          its MIR.        ended, clauses      its contract.        walk     the MIR meets it
 --     passes-spec     so a function whose MIR is that meets that contract
 -- Assumes nothing.
-use Prim.Native.Nat.{suc}
-use native.Mathlib.Omega.{arith}
-use mathlib.Core.List.{_++_}
-use mir.Syntax.{Name, Fn, Local, Opd as Operand, local, valueLocal, tyRef, imm, place, field, deref, seq, assign, call, cond, skip, exit, block, loop, return, copy, int, rvOpd, op2, mul, add, lt, offset, unsigned}
-use mir.Val.{Val}
-use prog.Model.{Model}
+use Rattle.ground.proofs.Names.{suc, arith, _++_}
 use prog.Routine as routine
-use prog.Wp.{Closed, Env, spotOf}
-use contract.Lifetimes.{Lfts, Shares, toks}
-use contract.Running.{Running, GhostRules}
-use types.Kit.{Item, use0}
-use types.Run.{Opd}
-use denote.Memory.{pointee}
-use denote.Ref.{now}
-use denote.Shadow.{pureL}
-use denote.Slice.{sliceTy}
-use denote.Signature.{shrSliceOf, typesAt}
 use denote.Struct.Laws as LL
-use denote.Triple.Clauses.{Ended, Clauses, closing}
-use denote.Triple.End.{all}
-use denote.Triple.Walked.{stay-dropped, goes-dropped}
-use Rattle.lent.proofs.Logic.{_≡_, refl, sym, _∙_, subst, ℕ, zero-le, _+_, _-_, _<_, _≤_, _^_, le-antisymm, List, [], _∷_, lit<, ltb→lt, nltb→le, URA, fullShare, named, w64, tyInt, tyBool, tyPtr, vint, vptr, length, getD, SProp, emp, id⊢, via, fst∗, fat, froom, flft, Memory, Routine, Heap, Tables, Atoms, Fun, fact, givenOf, tables, tablesOf, Given, ‵, raw, _⊛_, _$_, _∵_, !, qed, move, keep, drop, use1, split, join, rewrite, fsplit, fjoin, suffices, frame, done, whole, sub, look-in, look, look-raw, init, store, forget, stop, hop, fld, from, load, lit, of-opd, bin, and-then, no-more, assigns, assigns-last, land, returns, enter, alloc1, alloc0, params1, pass1, free0, fmOf, owns, Is, shows, RefT, at-slice, ShrSlice, slice-vals, shr-slice-tells, row, place-is, elem-out, elem-back, looks-slice, shuts-slice, plain, nothing, owned, Bound, tripleOf, Contract, Triple, says, Stays, ends-at, yes, scaled-fits}
+use Rattle.lent.proofs.Logic.{_≡_, refl, sym, _∙_, subst, ℕ, zero-le, _+_, _-_, _<_, _≤_, _^_, le-antisymm, List, [], _∷_, lit<, ltb→lt, nltb→le, URA, fullShare, named, w64, tyInt, tyBool, tyPtr, vint, vptr, length, getD, SProp, emp, id⊢, via, fst∗, fat, froom, flft, Memory, Routine, Heap, Tables, Atoms, Fun, fact, givenOf, tables, tablesOf, Given, ‵, raw, _⊛_, _$_, _∵_, !, qed, move, keep, drop, use1, split, join, rewrite, fsplit, fjoin, suffices, frame, done, whole, sub, look-in, look, look-raw, init, store, forget, stop, hop, fld, from, load, lit, of-opd, bin, and-then, no-more, assigns, assigns-last, land, returns, enter, alloc1, alloc0, params1, pass1, free0, fmOf, owns, Is, shows, RefT, at-slice, ShrSlice, slice-vals, shr-slice-tells, row, place-is, elem-out, elem-back, looks-slice, shuts-slice, plain, nothing, owned, Bound, tripleOf, Contract, Triple, says, Stays, ends-at, yes, scaled-fits, Name, Fn, Local, Operand, local, valueLocal, tyRef, imm, place, field, deref, seq, assign, cond, skip, exit, block, loop, return, copy, int, rvOpd, op2, mul, add, lt, offset, unsigned, Val, Model, Closed, Env, spotOf, Lfts, Shares, toks, Running, GhostRules, Item, use0, Opd, pointee, now, pureL, sliceTy, shrSliceOf, typesAt, Ended, Clauses, closing, all, stay-dropped, goes-dropped, call}
 use Rattle.device.specs.PowerUp.{powerUp}
 use Rattle.device.specs.declared.Device.{Device}
 use Rattle.device.proofs.Device as T
@@ -34,7 +16,6 @@ use Rattle.device.proofs.Device.Laws as T′
 use Rattle.pass.specs.Found.{toPass}
 use Rattle.pass.proofs.FoundLaws.{pass-below}
 use Rattle.pass.proofs.to_pass as look′
-use Rattle.pass.proofs.to_pass.Symbol as look-def
 use Rattle.lent.proofs.Records.{size, byte, device, recordBytes}
 use Rattle.lent.proofs.Walk.{Data, Walk, calls-value, lands-known, leave, leave-room, tests, whiles, proves}
 use Rattle.lent.proofs.Params.{Kind, held, inners, outers, Seen, seens, values, Args, sents, spelled, told, machine, Good, stays, goes, ends, fits, Had, has, sends, doubled, locals-of, operands, after, env, spot-after, found, alloc-all, pass-all, leave-all, opds-all, FnOf, calls-kinds}
@@ -63,7 +44,7 @@ module _ (turn : Name) (k : ℕ) (Ks : List (Kind k)) (S : Data) (o : Operand) (
     params = after Ks 2;
     locals = local (S .ty) valueLocal ∷ local (sliceTy (tyRef (named 0) imm (pointee (device .row .written)))) valueLocal ∷ local (byte .ty) valueLocal ∷ (locals-of Ks ++ locals);
     body = seq (assign (place (at 0) []) (rvOpd (copy (place 1 (field 1 ∷ [])))))
-        (seq (call look-def.name (copy (place 2 []) ∷ copy (place (at 0) []) ∷ []) (place (at 1) []))
+        (seq (call look′.Symbol.name (copy (place 2 []) ∷ copy (place (at 0) []) ∷ []) (place (at 1) []))
         (seq (assign (place (at 2) []) (rvOpd o))
         (seq (assign (place (at 3) []) (rvOpd (int w64 0)))
         (seq (block (loop (seq (assign (place (at 4) []) (op2 (lt unsigned) (copy (place (at 3) [])) (copy (place (at 1) []))))
@@ -119,7 +100,7 @@ module _ (turn : Name) (k : ℕ) (Ks : List (Kind k)) (S : Data) (o : Operand) (
     abbrev At : Type 0
     At = (i : ℕ) × ((i ≤ m) × Is (S .row) (s i) (S .val (s i) ∷ []))
 
-    walk : (𝓣 : Tables 𝓤 H) → Triple 𝓤 (𝓣 .C look-def.name) (tripleOf 𝓤 H A look′.signature (look′.spec 𝓤 H A mem run)) → Triple 𝓤 (𝓣 .C turn) (Turn 𝓤 H A) → Is (ShrSlice (named 0) (κs .0) (device .row)) x (slice-vals x) → Good κs (held byte ∷ Ks) (number, xs) → Walk 𝓤 H A ended stayed (clauses 𝓤) 𝓣 passes y tt
+    walk : (𝓣 : Tables 𝓤 H) → Triple 𝓤 (𝓣 .C look′.Symbol.name) (tripleOf 𝓤 H A look′.signature (look′.spec 𝓤 H A mem run)) → Triple 𝓤 (𝓣 .C turn) (Turn 𝓤 H A) → Is (ShrSlice (named 0) (κs .0) (device .row)) x (slice-vals x) → Good κs (held byte ∷ Ks) (number, xs) → Walk 𝓤 H A ended stayed (clauses 𝓤) 𝓣 passes y tt
     walk 𝓣 known-look known-turn is-x good =
         qed W ((‵ (flft (κs .0) (qs .0)) ⊛ raw (toks 𝓤 A k (κs .1) (qs .1))) ∷ ‵ (owns (typesAt (ended .signature .params) κs) (y .3) (y .4)) ∷ []) ∵ enter ! (𝓣 .C) (𝓣 .Λ) passes _ _ $
         alloc1 ! (λ l₀. alloc1 ! (λ l₁. alloc1 ! (λ l₂. alloc-all ! Ks (λ bs. alloc1 ! (λ m₀. alloc1 ! (λ m₁. alloc1 ! (λ m₂. alloc1 ! (λ m₃. alloc1 ! (λ m₄. alloc1 ! (λ m₅. alloc1 ! (λ m₆. alloc1 ! (λ m₇. alloc0 ! $ params1 ! $
@@ -175,7 +156,7 @@ module _ (turn : Name) (k : ℕ) (Ks : List (Kind k)) (S : Data) (o : Operand) (
         join ! $ frame ! $ use0 W (‵ (Had κs (held byte ∷ Ks) (number, xs))) (has 𝓤 H A W κs (held byte ∷ Ks) (number, xs)) $ nothing ! $ fjoin ! $ frame ! $ owned ! (S .row) (Is (S .row)) (S .makes 𝓤 H A W) (s m) _ is-all $ done !)))))))))))))))))
 
   pub passes-spec : {M : Type 1} (𝓤 : URA M) (H : Heap 𝓤) (𝓜 : Model 𝓤 H) (𝓖 : GhostRules 𝓤 H) (𝓡 : Running 𝓤 H 𝓜) (γ : routine.Env) (name : Name) → Closed 𝓤 H (tables 𝓤 H 𝓜 𝓡 γ .C) (tables 𝓤 H 𝓜 𝓡 γ .Λ) name passes
-      → Triple 𝓤 (𝓡 .run (γ look-def.name)) (tripleOf 𝓤 H (𝓖 .A) look′.signature (look′.spec 𝓤 H (𝓖 .A) (𝓜 .mem) (𝓡 .run))) → Triple 𝓤 (𝓡 .run (γ turn)) (Turn 𝓤 H (𝓖 .A))
+      → Triple 𝓤 (𝓡 .run (γ look′.Symbol.name)) (tripleOf 𝓤 H (𝓖 .A) look′.signature (look′.spec 𝓤 H (𝓖 .A) (𝓜 .mem) (𝓡 .run))) → Triple 𝓤 (𝓡 .run (γ turn)) (Turn 𝓤 H (𝓖 .A))
       → Triple 𝓤 (𝓡 .run (γ name)) (tripleOf 𝓤 H (𝓖 .A) (ended .signature) (closing 𝓤 H (𝓖 .A) ended (clauses 𝓤)))
   unfolding tablesOf
   passes-spec 𝓤 H 𝓜 𝓖 𝓡 γ name closed known-look known-turn =

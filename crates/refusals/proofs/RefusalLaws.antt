@@ -2,16 +2,7 @@
 --     first-zero, first-last, found-last       a list of numbers
 --     size-served, segments-served, plane-served       what calls that are served have
 -- Assumes nothing.
-use Prim.Native.Nat.{ℕ, _<_, _≤_}
-use native.Mathlib.Omega.{arith}
-use mathlib.Core.Bool.{Bool, true, false, _&&_}
-use mathlib.Core.List.{List, [], _∷_, _++_}
-use mathlib.Core.Path.{_≡_, refl, sym}
-use lib.Dec.{eqb, leb, ltb}
-use lib.ListN.{length}
-use borrow.Author.Tests.{eqb-true, eqb-false, leb-true, ltb-true, ltb-false}
-use Rattle.ground.specs.Choice.{if}
-use Rattle.ground.proofs.Truth.{passed, and-left, and-right}
+use Rattle.ground.proofs.Names.{ℕ, _<_, _≤_, arith, Bool, true, false, _&&_, List, [], _∷_, _++_, _≡_, refl, sym, eqb, leb, ltb, length, eqb-true, eqb-false, leb-true, ltb-true, ltb-false, if, passed, and-left, and-right}
 use Rattle.refusals.specs.Refusals.{bytesFor, clocksRefusal, sentRefusal, roomRefusal, segmentsRefusal, planeRefusal, firstOf, sizeRefusal}
 
 -- the first number of a list that isn't 0 is 0: all are

@@ -1,7 +1,6 @@
 -- What R and T do, and the registers that take nothing, or read 0.
 -- Assumes nothing.
-use Prim.Native.Nat.{ℕ}
-use mathlib.Core.Path.{_≡_, refl}
+use Rattle.ground.proofs.Names.{ℕ, _≡_, refl}
 use Rattle.words.specs.declared.KeyGroup.{KeyGroup}
 use Rattle.words.specs.declared.Register.the-variants.{NoOp, Configuration, KeyDebounced, KeyPressed, BothPlanes}
 use Rattle.digits.specs.Digits.{cleared}

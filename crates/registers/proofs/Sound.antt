@@ -1,13 +1,8 @@
 -- Each step leaves the registers of a sound record sound.
 -- Assumes nothing.
-use Prim.Native.Nat.{ℕ}
-use mathlib.Core.Bool.{Bool, true, _&&_}
-use mathlib.Core.Path.{_≡_, refl}
-use lib.Dec.{ltb}
-use Rattle.ground.specs.Choice.{bit}
+use Rattle.ground.proofs.Names.{ℕ, Bool, true, _&&_, _≡_, refl, ltb, bit, and-left, and-right, if-small}
 use Rattle.words.specs.declared.Register.{Register}
 use Rattle.words.specs.declared.Register.the-variants.{NoOp, Control, Configuration, KeyMask, KeyDebounced, KeyPressed, Intensity, Digit, BothPlanes, Unlisted}
-use Rattle.ground.proofs.Truth.{and-left, and-right, if-small}
 use Rattle.keys.specs.Keys.{soundKeys, maskWritten, debouncedRead}
 use Rattle.keys.proofs.Sound.{masked-sound, read-sound}
 use Rattle.controls.specs.Controls.{controlWritten, soundControls}

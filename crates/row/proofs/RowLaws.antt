@@ -6,18 +6,7 @@
 --     show-refused, show-done                      what a cathode shows, and the answer mark
 --     access-refused, access-done                  an access
 -- Assumes nothing.
-use Prim.Native.Nat.{ℕ, zero, suc, _-_, _≤_, _<_}
-use native.Mathlib.Omega.{arith}
-use mathlib.Core.Bool.{Bool, true, false}
-use mathlib.Core.List.{List, [], _∷_, _++_, append-nil}
-use mathlib.Core.Path.{_≡_, refl, sym, ap, _∙_}
-use lib.Dec.{eqb}
-use lib.ListN.{length, getD, take, drop, set, replicate, take-append-drop, length-append, List·getD-append}
-use lib.Seq.{length-take-le, take-all, set-append-left, drop-length}
-use borrow.Author.Tests.{ne-eqb}
-use Rattle.ground.specs.Choice.{if}
-use Rattle.ground.specs.Lists.{tabulate}
-use Rattle.ground.proofs.Lists.{tabulate-ext}
+use Rattle.ground.proofs.Names.{ℕ, zero, suc, _-_, _≤_, _<_, arith, Bool, true, false, List, [], _∷_, _++_, append-nil, _≡_, refl, sym, ap, _∙_, eqb, length, getD, take, drop, set, replicate, take-append-drop, length-append, List·getD-append, length-take-le, take-all, set-append-left, drop-length, ne-eqb, if, tabulate, tabulate-ext}
 use Rattle.refusals.specs.Refusals.{chainRefusal, driverRefusal, soundRefusal, sizeRefusal}
 use Rattle.refusals.proofs.RefusalLaws.{found-last}
 use Rattle.wire.specs.Shift.{wordsAfter, roomAfter}

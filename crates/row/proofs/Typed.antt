@@ -3,11 +3,7 @@
 --     all-bytes      and their bytes are bytes
 --     default        an element, whatever is read past the end
 -- Assumes nothing.
-use Prim.Native.Nat.{ℕ, zero, suc, _<_}
-use native.Mathlib.Nat.{le-of-suc-le-suc, not-suc-le-zero}
-use mathlib.Core.List.{List, [], _∷_, map}
-use mathlib.Core.Path.{_≡_, refl, sym, _∙_}
-use lib.ListN.{length, getD, take, length-map}
+use Rattle.ground.proofs.Names.{ℕ, zero, suc, _<_, le-of-suc-le-suc, not-suc-le-zero, List, [], _∷_, map, _≡_, refl, sym, _∙_, length, getD, take, length-map}
 use mir.Val.{Val}
 use denote.Array.{each}
 use denote.Laws.{Is}

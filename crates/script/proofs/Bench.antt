@@ -1,7 +1,6 @@
 -- The document's script, the first line's cases and the other lines, by computation.
 -- Assumes nothing.
-use mathlib.Core.Path.{refl}
-use Rattle.ground.specs.Lists.{tabulate, Agree}
+use Rattle.ground.proofs.Names.{refl, tabulate, Agree}
 use Rattle.wire.specs.Bits.{bits, value, unpack, byteAt, pack, wordAt}
 use Rattle.wire.specs.Wire.{string, words, wire, answer, shifted}
 use Rattle.device.specs.Taken.{taken}

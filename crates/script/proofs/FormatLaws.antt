@@ -1,15 +1,6 @@
 -- The records of a script, one after another.
 -- Assumes nothing.
-use Prim.Native.Nat.{ℕ, zero, suc, _+_, _-_, _≤_, _<_}
-use native.Mathlib.Omega.{arith}
-use mathlib.Core.Bool.{Bool, true, false, _&&_, true≢false}
-use mathlib.Core.List.{List, [], _∷_}
-use mathlib.Core.Path.{_≡_, refl, sym, ap, _∙_}
-use lib.Dec.{eqb, leb}
-use lib.ListN.{length, drop}
-use borrow.Author.Tests.{leb-true, eqb-true, ne-eqb}
-use Rattle.ground.specs.Choice.{if}
-use Rattle.ground.proofs.Truth.{and-left, and-right}
+use Rattle.ground.proofs.Names.{ℕ, zero, suc, _+_, _-_, _≤_, _<_, arith, Bool, true, false, _&&_, true≢false, List, [], _∷_, _≡_, refl, sym, ap, _∙_, eqb, leb, length, drop, leb-true, eqb-true, ne-eqb, if, and-left, and-right}
 use Rattle.script.specs.Format.{byte, kindOf, bodyLength, sizeOf, lengthFits, wellFormed, callOf, Item, itemAt, itemsAfter, items}
 
 -- bytes that are passed over

@@ -1,10 +1,6 @@
 -- Scripts by their length, and runs by their room.
 -- Assumes nothing.
-use Prim.Native.Nat.{ℕ, _+_, _*_, _<_, _≤_}
-use mathlib.Core.List.{List}
-use mathlib.Core.Path.{_≡_}
-use lib.ListN.{length}
-use borrow.Author.Tests.{lt-ltb, le-ltb}
+use Rattle.ground.proofs.Names.{ℕ, _+_, _*_, _<_, _≤_, List, _≡_, length, lt-ltb, le-ltb}
 use Rattle.script.specs.Lines.{refusalLine}
 use Rattle.script.specs.Format.{items}
 use Rattle.script.specs.Script.{itemsPrinted, printed}

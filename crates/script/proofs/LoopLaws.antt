@@ -1,14 +1,6 @@
 -- One record of a run: its line, and what the others then print.
 -- Assumes nothing.
-use Prim.Native.Nat.{ℕ, _+_, _*_, _-_, _≤_, _<_}
-use native.Mathlib.Omega.{arith}
-use mathlib.Core.Bool.{true, false}
-use mathlib.Core.List.{List, [], _++_}
-use mathlib.Core.Path.{_≡_, refl, sym, _∙_}
-use lib.ListN.{length, take, drop, length-drop, length-replicate, drop-of-length-le}
-use lib.Seq.{length-take-le, drop-drop}
-use borrow.Author.Tests.{eq-eqb, ne-eqb}
-use Rattle.ground.specs.Choice.{if}
+use Rattle.ground.proofs.Names.{ℕ, _+_, _*_, _-_, _≤_, _<_, arith, true, false, List, [], _++_, _≡_, refl, sym, _∙_, length, take, drop, length-drop, length-replicate, drop-of-length-le, length-take-le, drop-drop, eq-eqb, ne-eqb, if}
 use Rattle.device.specs.declared.Device.{Device}
 use Rattle.calls.specs.Outcome.{after}
 use Rattle.row.specs.Row.{fresh, records}

@@ -1,13 +1,6 @@
 -- Bytes written into room, one text after another.
 -- Assumes nothing.
-use Prim.Native.Nat.{ℕ, suc, _+_, _*_, _≤_, _<_}
-use native.Mathlib.Nat.{zero-add, add-zero, add-suc, suc-add}
-use native.Mathlib.Numerals.{add-one}
-use native.Mathlib.Omega.{arith}
-use mathlib.Core.List.{List, [], _∷_, _++_}
-use mathlib.Core.Path.{_≡_, refl, _∙_}
-use lib.ListN.{length, set, drop, getD, length-append, drop-of-length-le}
-use lib.Seq.{sets, length-sets, sets-eq, drop-cons}
+use Rattle.ground.proofs.Names.{ℕ, suc, _+_, _*_, _≤_, _<_, zero-add, add-zero, add-suc, suc-add, add-one, arith, List, [], _∷_, _++_, _≡_, refl, _∙_, length, set, drop, getD, length-append, drop-of-length-le, sets, length-sets, sets-eq, drop-cons}
 use Rattle.script.specs.Lines.{each, hexByte, answerLine}
 use Rattle.script.specs.Progress.{Written}
 

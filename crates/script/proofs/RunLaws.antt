@@ -1,16 +1,6 @@
 -- The calls on a row by value, as the calls on the chain of its records.
 -- Assumes nothing.
-use Prim.Native.Nat.{ℕ, zero, suc, _+_, _-_, _*_, _≤_}
-use native.Mathlib.Omega.{arith}
-use native.Mathlib.Nat.{le-of-suc-le-suc}
-use mathlib.Core.Bool.{Bool, true, false}
-use mathlib.Core.List.{List, [], _∷_, _++_}
-use mathlib.Core.Path.{_≡_, refl, sym, ap, _∙_}
-use lib.Dec.{eqb}
-use lib.ListN.{length, take, drop, replicate, length-append, length-take, length-drop, take-append-drop}
-use lib.Seq.{length-take-le, take-all, take-at}
-use borrow.Author.Tests.{ne-eqb}
-use Rattle.ground.specs.Choice.{if}
+use Rattle.ground.proofs.Names.{ℕ, zero, suc, _+_, _-_, _*_, _≤_, arith, le-of-suc-le-suc, Bool, true, false, List, [], _∷_, _++_, _≡_, refl, sym, ap, _∙_, eqb, length, take, drop, replicate, length-append, length-take, length-drop, take-append-drop, length-take-le, take-all, take-at, ne-eqb, if}
 use Rattle.refusals.specs.Refusals.{bytesFor}
 use Rattle.refusals.proofs.RefusalLaws.{size-served as sizes-fit}
 use Rattle.device.specs.PowerUp.{powerUp, freshChain}

@@ -1,14 +1,6 @@
 -- Where a run starts, and what a script prints from there.
 -- Assumes nothing.
-use Prim.Native.Nat.{ℕ, _+_, _*_, _/_, _≤_, _<_}
-use native.Mathlib.Omega.{arith}
-use mathlib.Core.Bool.{Bool, true, false, _&&_}
-use mathlib.Core.List.{List, [], _∷_, _++_}
-use mathlib.Core.Path.{_≡_, refl}
-use lib.Dec.{ltb}
-use lib.ListN.{length, drop}
-use borrow.Author.Tests.{eq-eqb, ne-eqb, lt-ltb, le-ltb, ltb-false}
-use Rattle.ground.specs.Choice.{if}
+use Rattle.ground.proofs.Names.{ℕ, _+_, _*_, _/_, _≤_, _<_, arith, Bool, true, false, _&&_, List, [], _∷_, _++_, _≡_, refl, ltb, length, drop, eq-eqb, ne-eqb, lt-ltb, le-ltb, ltb-false, if}
 use Rattle.device.specs.PowerUp.{freshChain}
 use Rattle.script.specs.Lines.{digit, chainLine, refusalLine}
 use Rattle.script.specs.Format.{byte, kindOf, bodyLength, sizeOf, wellFormed, itemsAfter, items}

@@ -5,16 +5,7 @@
 --     Reached, reached         a byte that reaches an open transfer
 --     write-free, write-open, read-free, read-open         a byte's outcome: where it reaches none, and where it reaches one
 -- Assumes nothing.
-use Prim.Native.Nat.{ℕ, zero, suc, _-_, _≤_, _<_}
-use native.Mathlib.Omega.{arith}
-use mathlib.Core.Bool.{Bool, true, false, _&&_}
-use mathlib.Core.List.{List, [], _∷_}
-use mathlib.Core.Path.{_≡_, refl, ap, _∙_}
-use lib.Dec.{eqb, leb, ltb}
-use lib.ListN.{length, getD, set, take}
-use borrow.Author.Tests.{eqb-true, le-leb, leb-true, ltb-true}
-use Rattle.ground.specs.Choice.{if}
-use Rattle.ground.proofs.Truth.{and-left, and-right, passed}
+use Rattle.ground.proofs.Names.{ℕ, zero, suc, _-_, _≤_, _<_, arith, Bool, true, false, _&&_, List, [], _∷_, _≡_, refl, ap, _∙_, eqb, leb, ltb, length, getD, set, take, eqb-true, le-leb, leb-true, ltb-true, if, and-left, and-right, passed}
 use Rattle.refusals.specs.Refusals.{driverRefusal, soundRefusal, clashRefusal, addressRefusal, firstOf}
 use Rattle.refusals.proofs.RefusalLaws.{first-zero}
 use Rattle.device.specs.PowerUp.{powerUp}

@@ -1,15 +1,6 @@
 -- Loops over the first n straps.
 -- Assumes nothing.
-use Prim.Native.Nat.{ℕ, zero, suc, _+_, _≤_, _<_}
-use native.Mathlib.Omega.{arith}
-use native.Mathlib.Numerals.{add-one}
-use mathlib.Core.Bool.{true, false, _&&_}
-use mathlib.Core.List.{List, [], _∷_}
-use mathlib.Core.Path.{_≡_, refl, sym, ap, _∙_}
-use lib.Dec.{eqb, ltb}
-use lib.ListN.{length, getD, take, drop, length-take, drop-of-length-le}
-use lib.Seq.{drop-cons, getD-take}
-use borrow.Author.Tests.{eq-eqb, ne-eqb}
+use Rattle.ground.proofs.Names.{ℕ, zero, suc, _+_, _≤_, _<_, arith, add-one, true, false, _&&_, List, [], _∷_, _≡_, refl, sym, ap, _∙_, eqb, ltb, length, getD, take, drop, length-take, drop-of-length-le, drop-cons, getD-take, eq-eqb, ne-eqb}
 use Rattle.bus.specs.Straps.{further, placeOf, distinct, sevenBits}
 
 module _ (n : ℕ) (σ : List ℕ) where

@@ -1,15 +1,6 @@
 -- The number of a start, a byte or a stop, found test by test; the first n of sixteen straps; and a slave byte that names a part.
 -- Assumes nothing.
-use Prim.Native.Nat.{ℕ, _≤_, _<_}
-use native.Mathlib.Omega.{arith}
-use mathlib.Core.Bool.{Bool, true, false}
-use mathlib.Core.List.{List, [], _∷_}
-use mathlib.Core.Path.{_≡_, refl, sym, _∙_}
-use lib.Dec.{eqb, ltb}
-use lib.ListN.{length, take}
-use lib.Seq.{take-all}
-use borrow.Author.Tests.{eq-eqb, ne-eqb, lt-ltb, le-ltb, le-leb, lt-leb, ltb-false}
-use Rattle.ground.specs.Choice.{if, odd}
+use Rattle.ground.proofs.Names.{ℕ, _≤_, _<_, arith, Bool, true, false, List, [], _∷_, _≡_, refl, sym, _∙_, eqb, ltb, length, take, take-all, eq-eqb, ne-eqb, lt-ltb, le-ltb, le-leb, lt-leb, ltb-false, if, odd}
 use Rattle.bus.specs.declared.Bus.{Bus}
 use Rattle.bus.specs.Straps.{matched, distinct, sevenBits}
 use Rattle.bus.specs.States.{command, reading, transfer, busOf}

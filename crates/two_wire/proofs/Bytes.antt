@@ -5,26 +5,9 @@
 --     bytes           its MIR.        ended, clauses      its contract.        walk     the MIR meets it
 --     bytes-spec      so a function whose MIR is that meets that contract
 -- Assumes nothing.
-use Prim.Native.Nat.{suc, _≤_}
-use native.Mathlib.Omega.{arith}
-use mathlib.Core.List.{_++_}
-use lib.Dec.{eqb, eqb→eq}
-use lib.ListN.{length-set}
-use mir.Syntax.{Name, Fn, Local, Ty, local, valueLocal, tyRef, imm, mut, erased, place, field, deref, seq, assign, call, cond, skip, return, copy, int, rvOpd, op2, sub as minus, mul, eq, offset, unsigned, aggregate, addrOf}
-use prog.Model.{Model}
+use Rattle.ground.proofs.Names.{suc, _≤_, arith, _++_, eqb, eqb→eq, length-set}
 use prog.Routine as routine
-use prog.Wp.{Closed, Env, spotOf}
-use contract.Lifetimes.{Lfts, Shares, toks}
-use contract.Running.{Running, GhostRules}
-use types.Kit.{use0, put, Item}
-use denote.Memory.{pointee}
-use denote.Ref.{now}
-use denote.Shadow.{pureL}
-use denote.Slice.{sliceTy}
-use denote.Signature.{mutSliceOf, typesAt}
-use denote.Triple.Clauses.{Ended, Clauses, closing}
-use denote.Triple.End.{all}
-use Rattle.lent.proofs.Logic.{_≡_, refl, sym, ap, subst, ℕ, _-_, _<_, List, [], _∷_, URA, fullShare, named, lit<, w8, w64, tyBool, tyPtr, vptr, length, getD, set, SProp, emp, id⊢, via, fst∗, GName, fat, flft, Memory, Routine, Heap, Tables, Atoms, Fun, fact, givenOf, tables, tablesOf, Given, ‵, raw, _⊛_, _$_, _∵_, !, qed, move, keep, drop, use1, split, join, rewrite, fsplit, fjoin, suffices, frame, done, agg, whole, sub, look-in, look, look-raw, init, store, store-raw, forget, stop, hop, fld, from, load, lit, of-opd, bin, addr, and-then, no-more, assigns, land, returns, enter, alloc1, alloc0, params1, pass1, free0, fmOf, owns, Is, shows, pureI, sliceVal, at-slice, Room, slice-vals, mut-slice-tells, row, place-is, elem-out, elem-back, elem-put, opens-slice, closes-slice, plain, owned, Bound, tripleOf, Contract, Triple, says, Stays, stay-slice, goes-slice, ends-at, yes, scaled-fits}
+use Rattle.lent.proofs.Logic.{_≡_, refl, sym, ap, subst, ℕ, _-_, _<_, List, [], _∷_, URA, fullShare, named, lit<, w8, w64, tyBool, tyPtr, vptr, length, getD, set, SProp, emp, id⊢, via, fst∗, GName, fat, flft, Memory, Routine, Heap, Tables, Atoms, Fun, fact, givenOf, tables, tablesOf, Given, ‵, raw, _⊛_, _$_, _∵_, !, qed, move, keep, drop, use1, split, join, rewrite, fsplit, fjoin, suffices, frame, done, agg, whole, sub, look-in, look, look-raw, init, store, store-raw, forget, stop, hop, fld, from, load, lit, of-opd, bin, addr, and-then, no-more, assigns, land, returns, enter, alloc1, alloc0, params1, pass1, free0, fmOf, owns, Is, shows, pureI, sliceVal, at-slice, Room, slice-vals, mut-slice-tells, row, place-is, elem-out, elem-back, elem-put, opens-slice, closes-slice, plain, owned, Bound, tripleOf, Contract, Triple, says, Stays, stay-slice, goes-slice, ends-at, yes, scaled-fits, Name, Fn, Local, Ty, local, valueLocal, tyRef, imm, mut, erased, place, field, deref, seq, assign, cond, skip, return, copy, int, rvOpd, op2, minus, mul, eq, offset, unsigned, aggregate, addrOf, Model, Closed, Env, spotOf, Lfts, Shares, toks, Running, GhostRules, use0, put, Item, pointee, now, pureL, sliceTy, mutSliceOf, typesAt, Ended, Clauses, closing, all, call}
 use Rattle.device.specs.PowerUp.{powerUp}
 use Rattle.device.specs.declared.Device.{Device}
 use Rattle.bus.specs.declared.Bus.{Bus}
@@ -36,7 +19,6 @@ use Rattle.transfers.specs.declared.ByteAnswer.{ByteAnswer}
 use Rattle.transfers.specs.declared.Straps.{Straps}
 use Rattle.transfers.proofs.BusLaws.{answeredTo, Reached, reached}
 use Rattle.transfers.proofs.part_open as open′
-use Rattle.transfers.proofs.part_open.Symbol as open-def
 use Rattle.lent.proofs.Records.{size, byte, device, recordBytes}
 use Rattle.lent.proofs.Walk.{Walk, lands-known, calls-value, leave, leave-room, forks, proves}
 use Rattle.lent.proofs.Params.{Kind, held, inners, outers, Seen, seens, values, Args, sents, spelled, told, machine, Good, stays, goes, ends, fits, Had, has, sends, doubled, locals-of, operands, after, env, spot-after, found, alloc-all, pass-all, leave-all, opds-all, FnOf, calls-kinds}
@@ -73,7 +55,7 @@ module _ (free work answer : Name) (k : ℕ) (Ks : List (Kind k)) (q : Seen Ks �
     body = seq (assign (place (at 0) []) (rvOpd (copy (place 1 (field 1 ∷ [])))))
         (seq (assign (place (at 5) []) (addrOf (place 1 (field 0 ∷ deref (device .ty) ∷ [])))) (seq (assign (place (at 6) []) (aggregate (copy (place (at 5) []) ∷ copy (place 1 (field 1 ∷ [])) ∷ [])))
         (seq (call number-def.name (copy (place (at 6) []) ∷ int w64 1 ∷ int w8 0 ∷ []) (place (at 1) []))
-        (seq (call open-def.name (copy (place (at 1) []) ∷ copy (place (at 0) []) ∷ copy (place 2 []) ∷ copy (place 3 []) ∷ []) (place (at 2) []))
+        (seq (call open′.Symbol.name (copy (place (at 1) []) ∷ copy (place (at 0) []) ∷ copy (place 2 []) ∷ copy (place 3 []) ∷ []) (place (at 2) []))
         (seq (assign (place (at 7) []) (op2 eq (copy (place (at 2) [])) (int w64 0)))
         (seq (cond (copy (place (at 7) [])) (seq (call free (copy (place (at 1) []) ∷ copy (place (at 0) []) ∷ copy (place 2 []) ∷ copy (place 3 []) ∷ operands (λ j. suc (suc (suc (suc j)))) Ks) (place 0 [])) return) skip)
         (seq (assign (place (at 3) []) (op2 (minus unsigned) (copy (place (at 2) [])) (int w64 1)))
@@ -140,7 +122,7 @@ module _ (free work answer : Name) (k : ℕ) (Ks : List (Kind k)) (q : Seen Ks �
     abbrev Left : Type 0
     Left = (r : ByteAnswer) × ((zs : List Device) × (Is (byteAnswer .row) r (byteAnswer .val r ∷ []) × ((busOutcome (σ .addresses) (q p) β ys ≡ answeredTo r zs) × (length zs ≡ length ys))))
 
-    walk : (𝓣 : Tables 𝓤 H) → Triple 𝓤 (𝓣 .C number-def.name) (CallRefusal 𝓤 H A mem run) → Triple 𝓤 (𝓣 .C open-def.name) (Open 𝓤 H A mem run) → Triple 𝓤 (𝓣 .C free) (Free 𝓤 H A) → Triple 𝓤 (𝓣 .C work) (Work 𝓤 H A) → Triple 𝓤 (𝓣 .C answer) (Answer 𝓤 H A) → Room (device .row) (length ys) → Good κs others (β, (σ, xs)) → Walk 𝓤 H A ended stayed (clauses 𝓤) 𝓣 bytes y tt
+    walk : (𝓣 : Tables 𝓤 H) → Triple 𝓤 (𝓣 .C number-def.name) (CallRefusal 𝓤 H A mem run) → Triple 𝓤 (𝓣 .C open′.Symbol.name) (Open 𝓤 H A mem run) → Triple 𝓤 (𝓣 .C free) (Free 𝓤 H A) → Triple 𝓤 (𝓣 .C work) (Work 𝓤 H A) → Triple 𝓤 (𝓣 .C answer) (Answer 𝓤 H A) → Room (device .row) (length ys) → Good κs others (β, (σ, xs)) → Walk 𝓤 H A ended stayed (clauses 𝓤) 𝓣 bytes y tt
     walk 𝓣 known-number known-open known-free known-work known-answer room is =
         qed W ((‵ (flft (κs .0) (qs .0)) ⊛ raw (toks 𝓤 A k (κs .1) (qs .1))) ∷ ‵ (owns (typesAt (ended .signature .params) κs) (y .3) (y .4)) ∷ []) ∵ enter ! (𝓣 .C) (𝓣 .Λ) bytes _ _ $
         alloc1 ! (λ l₀. alloc1 ! (λ l₁. alloc1 ! (λ l₂. alloc1 ! (λ l₃. alloc-all ! Ks (λ bs. alloc1 ! (λ m₀. alloc1 ! (λ m₁. alloc1 ! (λ m₂. alloc1 ! (λ m₃. alloc1 ! (λ m₄. alloc1 ! (λ m₅. alloc1 ! (λ m₆. alloc1 ! (λ m₇. alloc1 ! (λ m₈. alloc1 ! (λ m₉. alloc1 ! (λ p₀. alloc1 ! (λ p₁. alloc0 ! $ params1 ! $
@@ -213,7 +195,7 @@ module _ (free work answer : Name) (k : ℕ) (Ks : List (Kind k)) (q : Seen Ks �
         owned ! (byteAnswer .row) (Is (byteAnswer .row)) (byteAnswer .makes 𝓤 H A W) (a .0) _ (a .1 .1 .0) $ done !)))))))))))))))))))))
 
   pub bytes-spec : {M : Type 1} (𝓤 : URA M) (H : Heap 𝓤) (𝓜 : Model 𝓤 H) (𝓖 : GhostRules 𝓤 H) (𝓡 : Running 𝓤 H 𝓜) (γ : routine.Env) (name : Name) → Closed 𝓤 H (tables 𝓤 H 𝓜 𝓡 γ .C) (tables 𝓤 H 𝓜 𝓡 γ .Λ) name bytes
-      → Triple 𝓤 (𝓡 .run (γ number-def.name)) (CallRefusal 𝓤 H (𝓖 .A) (𝓜 .mem) (𝓡 .run)) → Triple 𝓤 (𝓡 .run (γ open-def.name)) (Open 𝓤 H (𝓖 .A) (𝓜 .mem) (𝓡 .run))
+      → Triple 𝓤 (𝓡 .run (γ number-def.name)) (CallRefusal 𝓤 H (𝓖 .A) (𝓜 .mem) (𝓡 .run)) → Triple 𝓤 (𝓡 .run (γ open′.Symbol.name)) (Open 𝓤 H (𝓖 .A) (𝓜 .mem) (𝓡 .run))
       → Triple 𝓤 (𝓡 .run (γ free)) (Free 𝓤 H (𝓖 .A)) → Triple 𝓤 (𝓡 .run (γ work)) (Work 𝓤 H (𝓖 .A)) → Triple 𝓤 (𝓡 .run (γ answer)) (Answer 𝓤 H (𝓖 .A))
       → Triple 𝓤 (𝓡 .run (γ name)) (tripleOf 𝓤 H (𝓖 .A) (ended .signature) (closing 𝓤 H (𝓖 .A) ended (clauses 𝓤)))
   unfolding tablesOf

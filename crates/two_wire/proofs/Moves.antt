@@ -4,20 +4,8 @@
 --     moves           its MIR.        ended, clauses      its contract.        walk     the MIR meets it
 --     moves-spec      so a function whose MIR is that meets that contract
 -- Assumes nothing.
-use mir.Syntax.{Name, Fn, local, valueLocal, tyRef, imm, place, field, seq, assign, call, return, copy, int, rvOpd}
-use prog.Model.{Model}
 use prog.Routine as routine
-use prog.Wp.{Closed}
-use contract.Running.{Running, GhostRules}
-use types.Kit.{use0}
-use denote.Memory.{pointee}
-use denote.Ref.{now}
-use denote.Slice.{sliceTy}
-use denote.Signature.{shrSliceOf, typesAt}
-use denote.Triple.Clauses.{Ended, Clauses, closing}
-use denote.Triple.End.{all}
-use denote.Triple.Walked.{stay-dropped, goes-dropped}
-use Rattle.lent.proofs.Logic.{_≡_, refl, ℕ, List, [], _∷_, lit<, length, URA, named, w8, w64, SProp, emp, id⊢, via, fst∗, Lft, Share, ftrue, flft, Memory, Routine, Heap, Tables, Atoms, Fun, fact, givenOf, tables, tablesOf, Given, ‵, _⊛_, _$_, _∵_, !, qed, move, drop, fsplit, fjoin, suffices, frame, done, whole, sub, look-in, look, init, stop, fld, from, load, lit, of-opd, and-then, no-more, assigns, land, returns, enter, alloc1, alloc0, params1, pass1, pass0, free0, fmOf, owns, Is, RefT, ShrSlice, slice-vals, shr-slice-tells, plain, nothing, owned, Bound, tripleOf, Contract, Triple, says, Stays, ends-at, yes}
+use Rattle.lent.proofs.Logic.{_≡_, refl, ℕ, List, [], _∷_, lit<, length, URA, named, w8, w64, SProp, emp, id⊢, via, fst∗, Lft, Share, ftrue, flft, Memory, Routine, Heap, Tables, Atoms, Fun, fact, givenOf, tables, tablesOf, Given, ‵, _⊛_, _$_, _∵_, !, qed, move, drop, fsplit, fjoin, suffices, frame, done, whole, sub, look-in, look, init, stop, fld, from, load, lit, of-opd, and-then, no-more, assigns, land, returns, enter, alloc1, alloc0, params1, pass1, pass0, free0, fmOf, owns, Is, RefT, ShrSlice, slice-vals, shr-slice-tells, plain, nothing, owned, Bound, tripleOf, Contract, Triple, says, Stays, ends-at, yes, Name, Fn, local, valueLocal, tyRef, imm, place, field, seq, assign, return, copy, int, rvOpd, Model, Closed, Running, GhostRules, use0, pointee, now, sliceTy, shrSliceOf, typesAt, Ended, Clauses, closing, all, stay-dropped, goes-dropped, call}
 use Rattle.device.specs.declared.Device.{Device}
 use Rattle.bus.specs.declared.Bus.{Bus}
 use Rattle.bus.specs.BusCalls.{BusCall}

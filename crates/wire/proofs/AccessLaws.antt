@@ -1,12 +1,6 @@
 -- The two ways of an access: by whole words, and by one line of bytes.
 -- Assumes nothing.
-use Prim.Native.Nat.{ℕ, _+_, _-_, _*_, _≤_}
-use native.Mathlib.Omega.{arith}
-use mathlib.Core.Bool.{Bool}
-use mathlib.Core.List.{List, _++_}
-use mathlib.Core.Path.{_≡_, sym, ap, _∙_}
-use lib.ListN.{length, take, drop, length-append}
-use lib.Seq.{drop-append-add, drop-drop, take-append-add, take-at}
+use Rattle.ground.proofs.Names.{ℕ, _+_, _-_, _*_, _≤_, arith, Bool, List, _++_, _≡_, sym, ap, _∙_, length, take, drop, length-append, drop-append-add, drop-drop, take-append-add, take-at}
 use Rattle.refusals.specs.Refusals.{bytesFor}
 use Rattle.wire.specs.Bits.{unpack, pack}
 use Rattle.wire.specs.Wire.{words, wire, answer, shifted}

@@ -1,21 +1,9 @@
 -- Rows of bytes by their bits: the spare bits of the last byte, and 16 bits at any bit.
 -- Assumes nothing.
-use Prim.Native.Nat.{ℕ, zero, suc, _+_, _-_, _*_, _/_, _%_, _^_, _≤_, _<_}
-use native.Mathlib.Nat.{le-of-suc-le-suc, mod-eq-of-lt, not-suc-le-zero}
-use native.Mathlib.Numerals.{add-one, add-two, add-three}
-use native.Mathlib.Omega.{arith}
-use mathlib.Core.Bool.{Bool, false}
-use mathlib.Core.List.{List, [], _∷_, _++_, append-assoc}
-use mathlib.Core.Path.{_≡_, refl, sym, ap, _∙_}
-use lib.ListN.{length, take, drop, getD, set, replicate, length-append, length-drop, take-append-drop}
-use lib.Pow.{field}
-use lib.Seq.{drop-at, drop-cons, drop-drop, length-take-le, set-split, take-add, take-append-add, take-append-le, take-append-seam}
-use Rattle.ground.specs.Lists.{tabulate}
-use Rattle.ground.proofs.Lists.{tabulate-ext}
+use Rattle.ground.proofs.Names.{ℕ, zero, suc, _+_, _-_, _*_, _/_, _%_, _^_, _≤_, _<_, le-of-suc-le-suc, mod-eq-of-lt, not-suc-le-zero, add-one, add-two, add-three, arith, Bool, false, List, [], _∷_, _++_, append-assoc, _≡_, refl, sym, ap, _∙_, length, take, drop, getD, set, replicate, length-append, length-drop, take-append-drop, field, drop-at, drop-cons, drop-drop, length-take-le, set-split, take-add, take-append-add, take-append-le, take-append-seam, tabulate, tabulate-ext, tabulate-take}
 use Rattle.refusals.specs.Refusals.{bytesFor}
 use Rattle.wire.specs.Bits.{bits, value, unpack, byteAt, pack}
 use Rattle.wire.proofs.BitLaws.{length-bits, value-bits, value-take, value-drop, value-append, value-zeros, length-unpack, unpack-append, drop-unpack, front-16}
-use Rattle.ground.proofs.Filled.{tabulate-take}
 
 -- a list's part from n on, cut at n + m
 pub drop-take-add : {A : Type 0} (n m : ℕ) (l : List A) → n ≤ length l → drop n (take (n + m) l) ≡ take m (drop n l)

@@ -1,15 +1,6 @@
 -- The bytes of numbers: of packed bytes, of a byte repeated, of `and`, `or`, sums without carry and a shift.
 -- Assumes nothing.
-use Prim.Native.Nat.{ℕ, zero, suc, _+_, _*_, _/_, _%_, _^_, _<_}
-use native.Mathlib.Nat.{mul-suc, mul-comm, div-one, div-div-eq-div-mul, not-suc-le-zero}
-use native.Mathlib.Omega.{arith}
-use mathlib.Core.Bool.{Bool}
-use mathlib.Core.Path.{_≡_, refl}
-use lib.Bits.{bitAnd, bitOr, and-shr, and-mod, or-shr, or-mod}
-use lib.Dec.{eqb}
-use lib.Pow.{pow-add}
-use borrow.Author.Tests.{eqb-true}
-use Rattle.ground.proofs.Below.{all, all-at}
+use Rattle.ground.proofs.Names.{ℕ, zero, suc, _+_, _*_, _/_, _%_, _^_, _<_, mul-suc, mul-comm, div-one, div-div-eq-div-mul, not-suc-le-zero, arith, Bool, _≡_, refl, bitAnd, bitOr, and-shr, and-mod, or-shr, or-mod, eqb, pow-add, eqb-true, all, all-at}
 use Rattle.wiring.specs.PackedRows.{byteOf, packed}
 
 -- byte 0, and byte i + 1 as byte i of what stands above it

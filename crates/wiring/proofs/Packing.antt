@@ -1,12 +1,6 @@
 -- A packed row holds what the rule says of each pin, by one test that is computed over the 24 rows.
 -- Assumes nothing.
-use Prim.Native.Nat.{ℕ, _<_, _≤_}
-use mathlib.Core.Bool.{Bool, true, _&&_}
-use mathlib.Core.Path.{_≡_, refl}
-use lib.Dec.{eqb}
-use borrow.Author.Tests.{eqb-true, le-ltb}
-use Rattle.ground.proofs.Below.{all, all-at}
-use Rattle.ground.proofs.Truth.{and-left, and-right}
+use Rattle.ground.proofs.Names.{ℕ, _<_, _≤_, Bool, true, _&&_, _≡_, refl, eqb, eqb-true, le-ltb, all, all-at, and-left, and-right}
 use Rattle.wiring.specs.PackedRows.{packedPins, packedRow, sixPins, firstPins}
 use Rattle.wiring.specs.declared.Display.{Display}
 use Rattle.wiring.specs.declared.Display.the-variants.{Sixteen, Fourteen, SevenPair}

@@ -1,16 +1,6 @@
 -- The table obeys the rule, by one test that is computed over its 456 entries.
 -- Assumes nothing.
-use Prim.Native.Nat.{ℕ, _+_, _-_, _*_, _<_, _≤_}
-use mathlib.Core.Bool.{Bool, true, _&&_}
-use mathlib.Core.List.{[], _∷_, _++_, map}
-use mathlib.Core.Path.{_≡_, refl}
-use lib.Dec.{eqb}
-use lib.ListN.{getD, set}
-use borrow.Author.Tests.{eqb-true, lt-ltb, le-ltb}
-use Rattle.ground.specs.Lists.{tabulate}
-use Rattle.ground.proofs.Below.{all, all-at}
-use Rattle.ground.proofs.Lists.{tabulate-ext}
-use Rattle.ground.proofs.Truth.{and-left, and-right}
+use Rattle.ground.proofs.Names.{ℕ, _+_, _-_, _*_, _<_, _≤_, Bool, true, _&&_, [], _∷_, _++_, map, _≡_, refl, eqb, getD, set, eqb-true, lt-ltb, le-ltb, tabulate, all, all-at, tabulate-ext, and-left, and-right}
 use Rattle.wiring.specs.Segments.{none, sixteen, fourteen, listOf, nothing, glyph, point, lightOf}
 use Rattle.wiring.specs.Wiring.{cathode, notDriven, partner, ruleAt, wireAt}
 use Rattle.wiring.specs.Table.{segmentEntry, wireEntry, displayIndex, table, entryAt, others, WiringTable}

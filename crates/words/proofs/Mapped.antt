@@ -1,9 +1,6 @@
 -- Table 6, by computation.
 -- Assumes nothing.
-use mathlib.Core.List.{map}
-use mathlib.Core.Path.{_≡_, refl}
-use Prim.Native.Nat.{ℕ}
-use Rattle.ground.specs.Lists.{tabulate}
+use Rattle.ground.proofs.Names.{map, _≡_, refl, ℕ, tabulate}
 use Rattle.words.specs.Addresses.{writtenAt, readAt}
 use Rattle.words.specs.Table6.{table6, unlisted, Table6}
 use Rattle.words.specs.declared.Register.{Register}

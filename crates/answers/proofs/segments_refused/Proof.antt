@@ -1,6 +1,5 @@
 -- `answers::segments_refused` meets its contract. Assumes nothing.
-use mathlib.Core.Path.{refl}
-use Rattle.ground.specs.Lists.{tabulate}
+use Rattle.ground.proofs.Names.{refl, tabulate}
 use Rattle.answers.proofs.segments_refused.Statement.{statement}
 use Rattle.answers.proofs.segments_refused.Tie as tie
 

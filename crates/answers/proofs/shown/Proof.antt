@@ -1,5 +1,5 @@
 -- `answers::shown` meets its contract. Assumes nothing.
-use borrow.Author.Needs.{needs}
+use Rattle.ground.proofs.Names.{needs}
 use Rattle.answers.proofs.shown.Statement.{statement}
 use Rattle.answers.proofs.shown.Tie as tie
 

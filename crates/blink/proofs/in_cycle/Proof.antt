@@ -1,10 +1,5 @@
 -- `blink::in_cycle` meets its contract. The invariant: what is left is below 2^k cycles, and has the same remainder. Assumes nothing.
-use Prim.Native.Nat.{ℕ, suc, _*_, _-_, _%_, _^_, _<_, _≤_}
-use native.Mathlib.Nat.{pow-suc, mod-eq-of-lt}
-use native.Mathlib.Omega.{arith}
-use mathlib.Core.Path.{_≡_, refl}
-use lib.Pow.{pow-mono}
-use borrow.Author.Needs.{needs}
+use Rattle.ground.proofs.Names.{ℕ, suc, _*_, _-_, _%_, _^_, _<_, _≤_, pow-suc, mod-eq-of-lt, arith, _≡_, refl, pow-mono, needs}
 use Rattle.blink.proofs.in_cycle.Statement.{statement}
 use Rattle.blink.proofs.in_cycle.Tie as tie
 
@@ -43,14 +38,5 @@ returns c =
 pub in-cycle-spec : {M : Type 1} → statement M
 in-cycle-spec =
     tie.close
-    (tie.spec
-    Inv-loop
-    μ-loop
-    (λ c. (omega arith, search needs, refl))
-    (λ c. search needs)
-    (λ c. search needs)
-    (λ c. search needs)
-    loop-again
-    (λ c. search needs)
-    loop-again-2
-    returns)
+    (tie.spec Inv-loop μ-loop (λ c. (omega arith, search needs, refl)) (λ c. search needs) (λ c. search needs) (λ c. search needs) loop-again
+    (λ c. search needs) loop-again-2 returns)

@@ -1,5 +1,5 @@
 -- `blink::is_set` meets its contract. Assumes nothing.
-use lib.Bits.{and-mask}
+use Rattle.ground.proofs.Names.{and-mask}
 use Rattle.blink.proofs.is_set.Statement.{statement}
 use Rattle.blink.proofs.is_set.Tie as tie
 

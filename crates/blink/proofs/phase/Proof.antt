@@ -1,9 +1,5 @@
 -- `blink::phase` meets its contract. Assumes nothing.
-use Prim.Native.Nat.{_+_, _%_}
-use native.Mathlib.Omega.{arith}
-use mathlib.Core.Path.{_≡_}
-use borrow.Author.Needs.{needs}
-use Rattle.ground.proofs.Tests.{tests}
+use Rattle.ground.proofs.Names.{_+_, _%_, arith, _≡_, needs, tests}
 use Rattle.blink.proofs.phase.Statement.{statement}
 use Rattle.blink.proofs.phase.Tie as tie
 
@@ -17,9 +13,5 @@ returns c =
 pub phase-spec : {M : Type 1} → statement M
 phase-spec =
     tie.close
-    (tie.spec
-    (λ c κs. search needs)
-    (λ c κs. omega (arith, c .advanced .ensures))
-    returns
-    (λ c. rw (c .before .if1 .left) (search tests))
+    (tie.spec (λ c κs. search needs) (λ c κs. omega (arith, c .advanced .ensures)) returns (λ c. rw (c .before .if1 .left) (search tests))
     (λ c. rw (c .before .if1 .left) (search tests)))

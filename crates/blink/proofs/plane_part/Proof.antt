@@ -1,8 +1,5 @@
 -- `blink::plane_part` meets its contract. Assumes nothing.
-use native.Mathlib.Omega.{arith}
-use mathlib.Core.Path.{sym, _∙_}
-use borrow.Author.Tests.{ne-eqb}
-use borrow.Author.Needs.{needs}
+use Rattle.ground.proofs.Names.{arith, sym, _∙_, ne-eqb, needs}
 use Rattle.refusals.proofs.RefusalLaws.{PlaneServed as Served, plane-served as served}
 use Rattle.blink.proofs.plane_part.Statement.{statement}
 use Rattle.blink.proofs.plane_part.Tie as tie
@@ -40,18 +37,5 @@ returns-3 c = rw (← c .before .before .before .before .plane-refusal .ensures,
 pub plane-part-spec : {M : Type 1} → statement M
 plane-part-spec =
     tie.close
-    (tie.spec
-    (λ c κs. search needs)
-    (λ c. search needs)
-    returns
-    (λ c. omega (arith, given c .digits))
-    (λ c. search needs)
-    sub-result
-    part-result-start
-    part-result-end
-    (λ c. search needs)
-    sub-result-2
-    part-result-start-2
-    part-result-end-2
-    returns-2
-    returns-3)
+    (tie.spec (λ c κs. search needs) (λ c. search needs) returns (λ c. omega (arith, given c .digits)) (λ c. search needs) sub-result part-result-start
+    part-result-end (λ c. search needs) sub-result-2 part-result-start-2 part-result-end-2 returns-2 returns-3)

@@ -1,5 +1,5 @@
 -- `blink::plane_refusal` meets its contract. Assumes nothing.
-use Rattle.ground.proofs.Tests.{tests}
+use Rattle.ground.proofs.Names.{tests}
 use Rattle.blink.proofs.plane_refusal.Statement.{statement}
 use Rattle.blink.proofs.plane_refusal.Tie as tie
 

@@ -1,5 +1,5 @@
 -- `blink::shown` meets its contract. Assumes nothing.
-use borrow.Author.Needs.{needs}
+use Rattle.ground.proofs.Names.{needs}
 use Rattle.blink.proofs.shown.Statement.{statement}
 use Rattle.blink.proofs.shown.Tie as tie
 

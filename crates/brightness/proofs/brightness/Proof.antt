@@ -1,6 +1,5 @@
 -- `brightness::brightness` meets its contract. Assumes nothing.
-use Rattle.ground.proofs.Tests.{tests}
-use borrow.Author.Needs.{needs}
+use Rattle.ground.proofs.Names.{tests, needs}
 use Rattle.brightness.proofs.brightness.Statement.{statement}
 use Rattle.brightness.proofs.brightness.Tie as tie
 

@@ -1,6 +1,5 @@
 -- `brightness::digit_sixteenths` meets its contract. Assumes nothing.
-use mathlib.Core.Path.{sym, _∙_}
-use borrow.Author.Needs.{needs}
+use Rattle.ground.proofs.Names.{sym, _∙_, needs}
 use Rattle.brightness.proofs.digit_sixteenths.Statement.{statement}
 use Rattle.brightness.proofs.digit_sixteenths.Tie as tie
 

@@ -1,6 +1,5 @@
 -- `brightness::nibble` meets its contract. Assumes nothing.
-use Rattle.ground.proofs.Tests.{tests}
-use borrow.Author.Needs.{needs}
+use Rattle.ground.proofs.Names.{tests, needs}
 use Rattle.brightness.proofs.nibble.Statement.{statement}
 use Rattle.brightness.proofs.nibble.Tie as tie
 

@@ -1,6 +1,5 @@
 -- `brightness::own_nibble` meets its contract. Assumes nothing.
-use Rattle.ground.proofs.Tests.{tests}
-use borrow.Author.Needs.{needs}
+use Rattle.ground.proofs.Names.{tests, needs}
 use Rattle.brightness.proofs.own_nibble.Statement.{statement}
 use Rattle.brightness.proofs.own_nibble.Tie as tie
 

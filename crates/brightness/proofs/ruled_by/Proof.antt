@@ -1,5 +1,5 @@
 -- `brightness::ruled_by` meets its contract. Assumes nothing.
-use Rattle.ground.proofs.Tests.{tests}
+use Rattle.ground.proofs.Names.{tests}
 use Rattle.brightness.proofs.ruled_by.Statement.{statement}
 use Rattle.brightness.proofs.ruled_by.Tie as tie
 

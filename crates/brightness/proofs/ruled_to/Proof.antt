@@ -1,6 +1,5 @@
 -- `brightness::ruled_to` meets its contract. Assumes nothing.
-use Rattle.ground.proofs.Tests.{tests}
-use borrow.Author.Needs.{needs}
+use Rattle.ground.proofs.Names.{tests, needs}
 use Rattle.brightness.proofs.ruled_to.Statement.{statement}
 use Rattle.brightness.proofs.ruled_to.Tie as tie
 

@@ -1,8 +1,5 @@
 -- `brightness::sixteenths` meets its contract. Assumes nothing.
-use Prim.Native.Nat.{_+_}
-use native.Mathlib.Omega.{arith}
-use borrow.Author.Tests.{lt-ltb, le-ltb}
-use borrow.Author.Needs.{needs}
+use Rattle.ground.proofs.Names.{_+_, arith, lt-ltb, le-ltb, needs}
 use Rattle.brightness.proofs.sixteenths.Statement.{statement}
 use Rattle.brightness.proofs.sixteenths.Tie as tie
 

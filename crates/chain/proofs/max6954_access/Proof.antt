@@ -1,59 +1,28 @@
 -- `chain::max6954_access` meets its contract: a walk of its MIR, by hand. The words are a local array, kept as a row of elements: it is lent to `shift_words` and to `wire::shift`, each for a lifetime of the call's own, and shared with `take_words`.
 -- Assumes nothing.
-use mathlib.Core.List.{_++_}
+use Rattle.ground.proofs.Names.{_++_, Holds, take, replicate}
 use mathlib.Core.Option.{some as holds}
-use lib.Dec.{T as Holds}
-use lib.ListN.{take, replicate}
-use mir.Syntax.{Local, local, memorySlot, w16, tyBool, tyUnit, tyRef, tyArray, erased, mut, imm, Place, Opd as Operand, Body, seq, call}
-use mir.Val.{Val, vunit, WT, hasTy}
-use base.Fml.{flent}
-use prog.Wp.{Env, Calls, Loops}
-use sound.WpLaws.{FmC}
-use types.Kit.{Item, put, some, later, Go, Sq, Post, runs, lands, await, pick, feqI}
-use types.Part.{rep}
-use types.Run.{Opds}
-use types.Share.{arr-parts}
-use types.Tokens.{lft-new, lft-end, lent-back}
-use denote.Array.{Array, array-repeat, array-lawful}
-use denote.Lend.{Held, lends-shr-slice}
-use denote.Memory.{shares, pointee}
-use denote.Plain.{uint-copy, uint-lawful}
-use denote.Signature.{shrSliceOf}
-use denote.Slice.{sliceTy}
-use denote.Steps.{peeks, only}
-use denote.Triple.Walked.{stay-dropped, goes-dropped}
-use Rattle.lent.proofs.Logic.{_≡_, refl, sym, ap, _∙_, subst, ℕ, List, [], _∷_, lit<, length, URA, fullShare, named, SProp, emp, id⊢, via, fst∗, Lft, GName, Share, ftrue, fat, flft, Memory, Routine, Heap, Tables, Atoms, Fun, givenOf, tables, tablesOf, Given, ‵, _⊛_, _$_, _∵_, !, qed, move, drop, split, join, rewrite, fsplit, fjoin, suffices, frame, done, look, init, forget, stop, from, lit, of-opd, bin, and-then, no-more, returns, enter, params1, pass1, pass0, fmOf, RattleType, owns, Is, shows, RefT, sliceVal, MutSlice, ShrSlice, Room, slice-vals, mut-slice-tells, shr-slice-tells, row, plain, nothing, owned, Bound, tripleOf, Triple, cited, says, Stays, ends-at, yes, raw, use1, use2, feqL, agg, addr, finally, onEntry, gave-slice, goes-gave-slice}
+use Rattle.lent.proofs.Logic.{_≡_, refl, sym, ap, _∙_, subst, ℕ, List, [], _∷_, lit<, length, URA, fullShare, named, SProp, emp, id⊢, via, fst∗, Lft, GName, Share, ftrue, fat, flft, Memory, Routine, Heap, Tables, Atoms, Fun, givenOf, tables, tablesOf, Given, ‵, _⊛_, _$_, _∵_, !, qed, move, drop, split, join, rewrite, fsplit, fjoin, suffices, frame, done, look, init, forget, stop, from, lit, of-opd, bin, and-then, no-more, returns, enter, params1, pass1, pass0, fmOf, RattleType, owns, Is, shows, RefT, sliceVal, MutSlice, ShrSlice, Room, slice-vals, mut-slice-tells, shr-slice-tells, row, plain, nothing, owned, Bound, tripleOf, Triple, cited, says, Stays, ends-at, yes, raw, use1, use2, feqL, agg, addr, finally, onEntry, gave-slice, goes-gave-slice, Local, local, memorySlot, w16, tyBool, tyUnit, tyRef, tyArray, erased, mut, imm, Place, Operand, Body, seq, Val, vunit, WT, hasTy, flent, Env, Calls, Loops, FmC, Item, put, some, later, Go, Sq, Post, runs, lands, await, pick, feqI, rep, Opds, arr-parts, lft-new, lft-end, lent-back, Array, array-repeat, array-lawful, Held, lends-shr-slice, shares, pointee, uint-copy, uint-lawful, shrSliceOf, sliceTy, peeks, only, stay-dropped, goes-dropped, call}
 use Rattle.device.specs.declared.Device.{Device}
 use Rattle.calls.specs.Calls.{access as accessCall}
 use Rattle.calls.specs.CallRefusals.{allSound}
 use Rattle.calls.specs.Outcome.{outcome}
 use Rattle.wire.specs.Shift.{wordsAfter, roomAfter}
 use Rattle.wire.proofs.shift as shift
-use Rattle.wire.proofs.shift.Symbol as shift-def
-use Rattle.wire.proofs.shift.Met as shift-thm
 use Rattle.pass.specs.Found.{accessByArguments, toPassIn, inRoom, found}
 use Rattle.pass.specs.OneByOne.{wordsTo, takenTo}
 use Rattle.pass.proofs.FoundLaws.{pass-in-le}
 use Rattle.pass.proofs.StepLaws.{length-words}
 use Rattle.pass.proofs.AccessLaws.{access-refused, access-served}
 use Rattle.pass.proofs.access_by_arguments as early′
-use Rattle.pass.proofs.access_by_arguments.Symbol as early-def
-use Rattle.pass.proofs.access_by_arguments.Met as early-thm
 use Rattle.lent.proofs.Records.{size, byte, half, device}
 use Rattle.lent.proofs.Walk.{Walk, LentShared, lends-shared, shared-back, calls-value, calls-fn, lands-known, forks, proves}
 use Rattle.lent.proofs.Locals.{span, values, starts, leaves, var, sets, lands-in, lands-over, count, target}
 use Rattle.lent.proofs.Arrays.{S, array-opens, array-closes, row-lent, row-back, gives-up}
 use Rattle.chain.proofs.Asks.{not-zero, is-zero}
 use Rattle.lent.proofs.shift_words as looked
-use Rattle.lent.proofs.shift_words.Symbol as looked-def
-use Rattle.lent.proofs.shift_words.Met as looked-thm
 use Rattle.lent.proofs.take_words as taking
-use Rattle.lent.proofs.take_words.Symbol as taking-def
-use Rattle.lent.proofs.take_words.Met as taking-thm
-use Rattle.chain.proofs.max6954_access.Key as key
 use Rattle.chain.proofs.max6954_access as access
-use Rattle.chain.proofs.max6954_access.Statement as stated
-use Rattle.chain.proofs.max6954_access.Code as code
 
 abbrev R : RattleType
 R = device .row
@@ -153,10 +122,10 @@ module _ {M : Type 1} (𝓤 : URA M) (H : Heap 𝓤) (A : Atoms 𝓤) (W : Given
   -- ---- the three calls that are lent something, over any rest of the context
   module _ {Γ : List (Item 𝓤)} {E : Env 𝓤 H} {C : Calls 𝓤 H} {Λ : Loops 𝓤 H} {p : Post 𝓤 H} {xs : List Operand} {d : Place} {rest : Body} (fm : FmC 𝓤 H (W .laws) C) (room : Room R n) (l : ℕ) where
     -- the chain is lent to `shift_words`, and the words
-    looks : Triple 𝓤 (C looked-def.name) (tripleOf 𝓤 H A looked.signature (looked.spec 𝓤 H A mem run)) → Is (byte .row) early (byte .val early ∷ [])
+    looks : Triple 𝓤 (C looked.Symbol.name) (tripleOf 𝓤 H A looked.signature (looked.spec 𝓤 H A mem run)) → Is (byte .row) early (byte .val early ∷ [])
         → ((ν : ℕ) (δ : GName) (ν₁ : ℕ) (δ₁ : GName) → Opds (Go {0}) W (raw (tripleOf 𝓤 H A looked.signature (looked.spec 𝓤 H A mem run) .pre (at-looked l ν δ ν₁ δ₁, tt)) ∷ ‵ (flent (ν₁ ∷ []) (Held S 16 l 0 δ₁)) ∷ ‵ (LentShared R κ (ν ∷ []) q γ b o ys) ∷ Γ) E xs (sliceVal (b, o) n ∷ byte .val early ∷ sliceVal (l, 0) 16 ∷ []))
         → (Is (byte .row) nr (byte .val nr ∷ []) → Holds (hasTy (byte .ty) (byte .val nr)) × WT (byte .val nr) → Sq W (Chain ∷ ‵ (flft κ q) ∷ Array-of l old ∷ Γ) (lands C Λ E d (byte .val nr) rest p))
-        → Sq W (Chain ∷ ‵ (flft κ q) ∷ Array-of l zeros ∷ Γ) (runs C Λ E (seq (call looked-def.name xs d) rest) p)
+        → Sq W (Chain ∷ ‵ (flft κ q) ∷ Array-of l zeros ∷ Γ) (runs C Λ E (seq (call looked.Symbol.name xs d) rest) p)
     looks known is-early os next =
         lft-new ! tt (λ ν. move ! (1 ∷ 2 ∷ []) $ use2 W (later (some (λ (δ : GName). ‵ (ShrSlice (named 0) (ν ∷ []) R .own (ref δ ys) (slice-vals (ref δ ys))) ⊛ ‵ (LentShared R κ (ν ∷ []) q γ b o ys)))) (lends-shared R κ (ν ∷ []) q γ b o 𝓤 H A W (named 0) (named 0) ys) $ await ! tt $ pick ! (λ δ. split ! $
         move ! (3 ∷ []) $ row-lent ! tt S (named 1) zeros l 0 room16 (λ ν₁ δ₁.
@@ -169,10 +138,10 @@ module _ {M : Type 1} (𝓤 : URA M) (H : Heap 𝓤) (A : Atoms 𝓤) (W : Given
         move ! (2 ∷ []) $ lft-end ! tt $ move ! (0 ∷ 3 ∷ []) $ use2 W (later (Chain ⊛ ‵ (flft κ q))) (shared-back R κ (ν ∷ []) q γ b o 𝓤 H A W (named 0) (named 0) ys room) $ await ! tt $ split ! $ move ! (3 ∷ []) $ drop ! $ next is-nr wt-nr))))))
 
     -- the words are lent to `wire::shift`, which takes the answer and what was sent for good
-    shifts : Triple 𝓤 (C shift-def.name) (tripleOf 𝓤 H A shift.signature (shift.spec 𝓤 H A mem run)) → Is (size .row) clocks (size .val clocks ∷ [])
+    shifts : Triple 𝓤 (C shift.Symbol.name) (tripleOf 𝓤 H A shift.signature (shift.spec 𝓤 H A mem run)) → Is (size .row) clocks (size .val clocks ∷ [])
         → ((ν : ℕ) (δ : GName) → Opds (Go {0}) W (raw (tripleOf 𝓤 H A shift.signature (shift.spec 𝓤 H A mem run) .pre (at-shift l ν δ, tt)) ∷ ‵ (flent (ν ∷ []) (Held S (length old) l 0 δ)) ∷ Γ) E xs (sliceVal (l, 0) (length old) ∷ size .val n ∷ size .val clocks ∷ sliceVal (sent .ptr) (length (sent .now)) ∷ sliceVal (answer .ptr) (length (answer .now)) ∷ []))
         → ((w : Val) → w ∷ [] ≡ vunit ∷ [] → length next ≡ 16 → length given ≡ length (answer .now) → Sq W (Array-of l next ∷ Toks ∷ ‵ (finally (byte .row) (answer .name) given) ∷ Γ) (lands C Λ E d w rest p))
-        → Sq W (Array-of l old ∷ Toks ∷ Answer ∷ Sent ∷ Γ) (runs C Λ E (seq (call shift-def.name xs d) rest) p)
+        → Sq W (Array-of l old ∷ Toks ∷ Answer ∷ Sent ∷ Γ) (runs C Λ E (seq (call shift.Symbol.name xs d) rest) p)
     shifts known is-clocks os k = row-lent ! tt S (named 0) old l 0 (subst (Room S) (sym old-long) room16) (λ ν δ.
         -- [the words lent; what their lender keeps; ν; the other tokens; answer; sent; ..]
         nothing ! $ move ! (5 ∷ 0 ∷ []) $ fjoin ! $ move ! (5 ∷ 0 ∷ []) $ fjoin ! $ owned ! (size .row) (Is (size .row)) (size .makes 𝓤 H A W) clocks (size .val clocks ∷ []) is-clocks $ fjoin ! $ owned ! (size .row) (Is (size .row)) (size .makes 𝓤 H A W) n (size .val n ∷ []) (refl, room .0) $ fjoin ! $ move ! (1 ∷ 0 ∷ []) $ fjoin ! $
@@ -183,10 +152,10 @@ module _ {M : Type 1} (𝓤 : URA M) (H : Heap 𝓤) (A : Atoms 𝓤) (W : Given
         move ! (2 ∷ []) $ use1 W (‵ (flft (ν ∷ []) fullShare) ⊛ Toks) (id⊢ 𝓤 _) $ split ! $ move ! (0 ∷ 3 ∷ 4 ∷ []) $ row-back ! tt S next $ k w unit (ap length (sym (e .0)) ∙ long ∙ old-long) (ap length (sym (e .1)) ∙ long′))))))
 
     -- the chain is passed to `take_words` for good, and the words are shared with it
-    takes : Triple 𝓤 (C taking-def.name) (tripleOf 𝓤 H A taking.signature (taking.spec 𝓤 H A mem run)) → length next ≡ 16
+    takes : Triple 𝓤 (C taking.Symbol.name) (tripleOf 𝓤 H A taking.signature (taking.spec 𝓤 H A mem run)) → length next ≡ 16
         → ((ν : ℕ) (δ : GName) → Opds (Go {0}) W (raw (tripleOf 𝓤 H A taking.signature (taking.spec 𝓤 H A mem run) .pre (at-taking l ν δ, tt)) ∷ ‵ (flent (ν ∷ []) (arr-parts (shares S) (length next) .part fullShare next l 0)) ∷ Γ) E xs (sliceVal (b, o) n ∷ sliceVal (l, 0) (length next) ∷ []))
         → ((w : Val) → w ∷ [] ≡ vunit ∷ [] → length taken ≡ n → Sq W (‵ (finally R γ taken) ∷ ‵ (flft κ q) ∷ Array-of l next ∷ Γ) (lands C Λ E d w rest p))
-        → Sq W (Chain ∷ ‵ (flft κ q) ∷ Array-of l next ∷ Γ) (runs C Λ E (seq (call taking-def.name xs d) rest) p)
+        → Sq W (Chain ∷ ‵ (flft κ q) ∷ Array-of l next ∷ Γ) (runs C Λ E (seq (call taking.Symbol.name xs d) rest) p)
     takes known next-long os k = lft-new ! tt (λ ν. move ! (3 ∷ []) $ feqI ! ℕ (length next) (length next) refl $ fjoin ! $
         use1 W (later (some (λ (δ : GName). ‵ (ShrSlice (named 1) (ν ∷ []) S .own (words l δ next) (slice-vals (words l δ next))) ⊛ ‵ (flent (ν ∷ []) (arr-parts (shares S) (length next) .part fullShare next l 0))))) (lends-shr-slice 𝓤 H A W S (named 1) (ν ∷ []) fullShare next l 0 (subst (Room S) (sym next-long) room16)) $ await ! tt $ pick ! (λ δ. split ! $
         nothing ! $ move ! (1 ∷ 0 ∷ []) $ fjoin ! $ move ! (3 ∷ 0 ∷ []) $ fjoin ! $ nothing ! $ move ! (3 ∷ 0 ∷ []) $ join ! $ move ! (3 ∷ 0 ∷ []) $ join ! $ use2 W (raw (onEntry 𝓤 H A taking.signature (at-taking l ν δ .0) (at-taking l ν δ .1) (at-taking l ν δ .3) (at-taking l ν δ .4))) (id⊢ 𝓤 _) $
@@ -194,11 +163,11 @@ module _ {M : Type 1} (𝓤 : URA M) (H : Heap 𝓤) (A : Atoms 𝓤) (W : Given
         move ! (1 ∷ []) $ fsplit ! $ fsplit ! $ move ! (1 ∷ []) $ feqL ! (λ long. rewrite ! 0 (λ (l : List Device). ‵ (finally R γ l)) e refl $ move ! (1 ∷ []) $ drop ! $
         move ! (1 ∷ []) $ use1 W (‵ (flft κ q) ⊛ ‵ (flft (ν ∷ []) fullShare) ⊛ ‵ ftrue) (id⊢ 𝓤 _) $ split ! $ move ! (1 ∷ []) $ split ! $ lft-end ! tt $ move ! (0 ∷ 4 ∷ []) $ lent-back ! tt $ fsplit ! $ drop ! $ move ! (1 ∷ []) $ drop ! $ move ! (2 ∷ 1 ∷ 0 ∷ []) $ k w unit (ap length (sym e) ∙ long))))))
 
-  walk : (𝓣 : Tables 𝓤 H) → Triple 𝓤 (𝓣 .C early-def.name) (tripleOf 𝓤 H A early′.signature (early′.spec 𝓤 H A mem run)) → Triple 𝓤 (𝓣 .C looked-def.name) (tripleOf 𝓤 H A looked.signature (looked.spec 𝓤 H A mem run))
-      → Triple 𝓤 (𝓣 .C shift-def.name) (tripleOf 𝓤 H A shift.signature (shift.spec 𝓤 H A mem run)) → Triple 𝓤 (𝓣 .C taking-def.name) (tripleOf 𝓤 H A taking.signature (taking.spec 𝓤 H A mem run))
-      → Room R n → Is (size .row) clocks (size .val clocks ∷ []) → Room (byte .row) (length (sent .now)) → Room (byte .row) (length (answer .now)) → Walk 𝓤 H A access.ended stayed (access.clauses 𝓤 H A mem run) 𝓣 code.function y tt
+  walk : (𝓣 : Tables 𝓤 H) → Triple 𝓤 (𝓣 .C early′.Symbol.name) (tripleOf 𝓤 H A early′.signature (early′.spec 𝓤 H A mem run)) → Triple 𝓤 (𝓣 .C looked.Symbol.name) (tripleOf 𝓤 H A looked.signature (looked.spec 𝓤 H A mem run))
+      → Triple 𝓤 (𝓣 .C shift.Symbol.name) (tripleOf 𝓤 H A shift.signature (shift.spec 𝓤 H A mem run)) → Triple 𝓤 (𝓣 .C taking.Symbol.name) (tripleOf 𝓤 H A taking.signature (taking.spec 𝓤 H A mem run))
+      → Room R n → Is (size .row) clocks (size .val clocks ∷ []) → Room (byte .row) (length (sent .now)) → Room (byte .row) (length (answer .now)) → Walk 𝓤 H A access.ended stayed (access.clauses 𝓤 H A mem run) 𝓣 access.Code.function y tt
   walk 𝓣 known-early known-looked known-shift known-taking room is₁ room₂ room₃ =
-      qed W ((‵ (flft κ q) ⊛ ‵ (flft κ₁ q₁) ⊛ ‵ (flft κ₂ q₂) ⊛ ‵ ftrue) ∷ ‵ (owns (MutSlice (named 0) κ R ∷ size .row ∷ ShrSlice (named 1) κ₁ (byte .row) ∷ MutSlice (named 2) κ₂ (byte .row) ∷ []) (y .3) (y .4)) ∷ []) ∵ enter ! (𝓣 .C) (𝓣 .Λ) code.function _ _ $
+      qed W ((‵ (flft κ q) ⊛ ‵ (flft κ₁ q₁) ⊛ ‵ (flft κ₂ q₂) ⊛ ‵ ftrue) ∷ ‵ (owns (MutSlice (named 0) κ R ∷ size .row ∷ ShrSlice (named 1) κ₁ (byte .row) ∷ MutSlice (named 2) κ₂ (byte .row) ∷ []) (y .3) (y .4)) ∷ []) ∵ enter ! (𝓣 .C) (𝓣 .Λ) access.Code.function _ _ $
       starts W locals ! (λ l D dies. params1 ! $
       pass1 ! (init ! 1 refl (tt, (tt, (record { fits = room .0 }, tt)))) $ pass1 ! (init ! 2 refl (size .typed 𝓤 H A W clocks is₁)) $ pass1 ! (init ! 3 refl (tt, (tt, (record { fits = room₂ .0 }, tt)))) $ pass1 ! (init ! 4 refl (tt, (tt, (record { fits = room₃ .0 }, tt)))) $ pass0 ! $
       -- [_0; _1; ..; _24; that they die; the tokens; what the parameters own]
@@ -235,13 +204,13 @@ module _ {M : Type 1} (𝓤 : URA M) (H : Heap 𝓤) (A : Atoms 𝓤) (W : Given
       suffices ! _ (ends-at 𝓤 H A access.ended stayed (access.clauses 𝓤 H A mem run) W (y, tt) (byte .val nr) nr (x .chain, (tt, (tt, (x .bytes, tt)))) (x .chain-long, (tt, (tt, (x .bytes-long, tt))))) $ says ! (x .is) $
       move ! (1 ∷ 2 ∷ []) $ join ! $ frame ! $ move ! (1 ∷ 2 ∷ []) $ fjoin ! $ nothing ! $ fjoin ! $ nothing ! $ fjoin ! $ move ! (1 ∷ 0 ∷ []) $ fjoin ! $ frame ! $ owned ! (byte .row) (Is (byte .row)) (byte .makes 𝓤 H A W) nr _ is-nr $ done !)))))))
 
-pub max6954-access-spec : {M : Type 1} → stated.statement M
-unfolding code.routine tablesOf
+pub max6954-access-spec : {M : Type 1} → access.Statement.statement M
+unfolding access.Code.routine tablesOf
 max6954-access-spec 𝓤 H 𝓜 𝓖 𝓡 =
     let W = givenOf 𝓤 H 𝓜 𝓖 in
-    proves 𝓤 H 𝓜 𝓖 𝓡 code.env access.ended stayed (access.clauses 𝓤 H (𝓖 .A) (𝓜 .mem) (𝓡 .run))
+    proves 𝓤 H 𝓜 𝓖 𝓡 access.Code.env access.ended stayed (access.clauses 𝓤 H (𝓖 .A) (𝓜 .mem) (𝓡 .run))
     (goes-gave-slice 𝓤 H (𝓖 .A) W 3 0 tt (plain (λ _. R)), (goes-dropped 𝓤 H (𝓖 .A) W 3 (plain (λ _. size .row)) yes (λ κs x f. refl), (goes-dropped 𝓤 H (𝓖 .A) W 3 (shrSliceOf (1 ∷ []) tt (plain (λ _. byte .row))) yes (λ κs x f. refl), (goes-gave-slice 𝓤 H (𝓖 .A) W 3 2 tt (plain (λ _. byte .row)), tt))))
-    key.name code.function (code.unfolded 𝓤 H 𝓜 𝓡) (λ κs. (slice-vals, ((λ n. size .val n ∷ []), (slice-vals, (slice-vals, tt))))) (λ κs. (mut-slice-tells (named 0) (κs .0) R, (size .tells, (shr-slice-tells (named 1) (κs .1 .0) (byte .row), (mut-slice-tells (named 2) (κs .1 .1 .0) (byte .row), tt)))))
-    (λ κs qs bounds a g are. via 𝓤 _ (fst∗ 𝓤 _ (emp 𝓤)) (walk 𝓤 H (𝓖 .A) W (𝓜 .mem) (𝓡 .run) (κs .0) (κs .1 .0) (κs .1 .1 .0) (qs .0) (qs .1 .0) (qs .1 .1 .0) (a .0 .ptr .0) (a .0 .ptr .1) (a .0 .name) (a .0 .now) (a .1 .0) (a .1 .1 .0) (a .1 .1 .1 .0) (tablesOf 𝓤 H 𝓜 (tables 𝓤 H 𝓜 𝓡 code.env))
-    (cited 𝓤 H _ 𝓜 𝓡 code.env early-def.name early-def.routine code.calls-pass·access-by-arguments (early-thm.met 𝓤 H 𝓜 𝓖 𝓡)) (cited 𝓤 H _ 𝓜 𝓡 code.env looked-def.name looked-def.routine code.calls-lent·shift-words (looked-thm.met 𝓤 H 𝓜 𝓖 𝓡))
-    (cited 𝓤 H _ 𝓜 𝓡 code.env shift-def.name shift-def.routine code.calls-wire·shift (shift-thm.met 𝓤 H 𝓜 𝓖 𝓡)) (cited 𝓤 H _ 𝓜 𝓡 code.env taking-def.name taking-def.routine code.calls-lent·take-words (taking-thm.met 𝓤 H 𝓜 𝓖 𝓡)) (are .0 .0 .1) (are .1 .0) (are .1 .1 .0 .0 .1) (are .1 .1 .1 .0 .0 .1)))
+    access.Key.name access.Code.function (access.Code.unfolded 𝓤 H 𝓜 𝓡) (λ κs. (slice-vals, ((λ n. size .val n ∷ []), (slice-vals, (slice-vals, tt))))) (λ κs. (mut-slice-tells (named 0) (κs .0) R, (size .tells, (shr-slice-tells (named 1) (κs .1 .0) (byte .row), (mut-slice-tells (named 2) (κs .1 .1 .0) (byte .row), tt)))))
+    (λ κs qs bounds a g are. via 𝓤 _ (fst∗ 𝓤 _ (emp 𝓤)) (walk 𝓤 H (𝓖 .A) W (𝓜 .mem) (𝓡 .run) (κs .0) (κs .1 .0) (κs .1 .1 .0) (qs .0) (qs .1 .0) (qs .1 .1 .0) (a .0 .ptr .0) (a .0 .ptr .1) (a .0 .name) (a .0 .now) (a .1 .0) (a .1 .1 .0) (a .1 .1 .1 .0) (tablesOf 𝓤 H 𝓜 (tables 𝓤 H 𝓜 𝓡 access.Code.env))
+    (cited 𝓤 H _ 𝓜 𝓡 access.Code.env early′.Symbol.name early′.Symbol.routine access.Code.calls-pass·access-by-arguments (early′.Met.met 𝓤 H 𝓜 𝓖 𝓡)) (cited 𝓤 H _ 𝓜 𝓡 access.Code.env looked.Symbol.name looked.Symbol.routine access.Code.calls-lent·shift-words (looked.Met.met 𝓤 H 𝓜 𝓖 𝓡))
+    (cited 𝓤 H _ 𝓜 𝓡 access.Code.env shift.Symbol.name shift.Symbol.routine access.Code.calls-wire·shift (shift.Met.met 𝓤 H 𝓜 𝓖 𝓡)) (cited 𝓤 H _ 𝓜 𝓡 access.Code.env taking.Symbol.name taking.Symbol.routine access.Code.calls-lent·take-words (taking.Met.met 𝓤 H 𝓜 𝓖 𝓡)) (are .0 .0 .1) (are .1 .0) (are .1 .1 .0 .0 .1) (are .1 .1 .1 .0 .0 .1)))

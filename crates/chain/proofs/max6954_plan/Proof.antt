@@ -1,45 +1,24 @@
 -- `chain::max6954_plan` meets its contract: a walk of its MIR, by hand. The chain and the wanted contents are passed to `accesses` and, with the list, to `write_list`.
 -- Assumes nothing.
-use lib.Dec.{eqb, T as Holds}
-use mir.Syntax.{tyUnit}
-use mir.Val.{Val, vunit, WT, hasTy}
-use denote.Signature.{shrSliceOf}
-use denote.Slice.{shr-slice-copy}
-use denote.Steps.{only}
-use denote.Triple.Walked.{stay-dropped, goes-dropped}
-use Rattle.lent.proofs.Logic.{_≡_, refl, sym, ap, subst, ℕ, List, [], _∷_, lit<, length, URA, named, SProp, emp, id⊢, via, fst∗, Lft, Share, ftrue, flft, Memory, Routine, Heap, Tables, Atoms, Fun, givenOf, tables, tablesOf, Given, ‵, raw, _⊛_, _$_, _∵_, !, qed, move, drop, use1, use2, feqL, split, join, rewrite, fsplit, fjoin, suffices, frame, done, agg, whole, sub, look-in, look, init, store, stop, hop, fld, from, load, lit, of-opd, addr, and-then, no-more, assigns, land, returns, enter, alloc1, alloc0, params1, pass1, pass0, free0, fmOf, RattleType, owns, Is, RefT, ShrSlice, MutSlice, Room, finally, slice-vals, shr-slice-tells, mut-slice-tells, plain, nothing, owned, onEntry, Bound, tripleOf, Triple, cited, says, Stays, gave-slice, goes-gave-slice, ends-at, yes}
-use Rattle.ground.specs.Choice.{if}
+use Rattle.ground.proofs.Names.{eqb, Holds, if}
+use Rattle.lent.proofs.Logic.{_≡_, refl, sym, ap, subst, ℕ, List, [], _∷_, lit<, length, URA, named, SProp, emp, id⊢, via, fst∗, Lft, Share, ftrue, flft, Memory, Routine, Heap, Tables, Atoms, Fun, givenOf, tables, tablesOf, Given, ‵, raw, _⊛_, _$_, _∵_, !, qed, move, drop, use1, use2, feqL, split, join, rewrite, fsplit, fjoin, suffices, frame, done, agg, whole, sub, look-in, look, init, store, stop, hop, fld, from, load, lit, of-opd, addr, and-then, no-more, assigns, land, returns, enter, alloc1, alloc0, params1, pass1, pass0, free0, fmOf, RattleType, owns, Is, RefT, ShrSlice, MutSlice, Room, finally, slice-vals, shr-slice-tells, mut-slice-tells, plain, nothing, owned, onEntry, Bound, tripleOf, Triple, cited, says, Stays, gave-slice, goes-gave-slice, ends-at, yes, tyUnit, Val, vunit, WT, hasTy, shrSliceOf, shr-slice-copy, only, stay-dropped, goes-dropped}
 use Rattle.refusals.specs.Refusals.{wantedRefusal, listRefusal, firstOf}
 use Rattle.device.specs.declared.Device.{Device}
 use Rattle.pass.specs.Found.{toPass}
 use Rattle.planner.specs.OneDriver.{reachTo, listTo}
 use Rattle.planner.proofs.Listed.{length-listed}
 use Rattle.planner.proofs.wanted_refusal as own′
-use Rattle.planner.proofs.wanted_refusal.Symbol as own-def
-use Rattle.planner.proofs.wanted_refusal.Met as own-thm
 use Rattle.planner.proofs.list_refusal as room′
-use Rattle.planner.proofs.list_refusal.Symbol as room-def
-use Rattle.planner.proofs.list_refusal.Met as room-thm
 use Rattle.planner.proofs.plan_answer as last′
-use Rattle.planner.proofs.plan_answer.Symbol as last-def
-use Rattle.planner.proofs.plan_answer.Met as last-thm
 use Rattle.redraw.proofs.CallLaws.{early, own, number-of-plan, plan-outcome}
 use Rattle.redraw.proofs.accesses as reaching
-use Rattle.redraw.proofs.accesses.Symbol as reaching-def
-use Rattle.redraw.proofs.accesses.Met as reaching-thm
 use Rattle.redraw.proofs.write_list as writing
-use Rattle.redraw.proofs.write_list.Symbol as writing-def
-use Rattle.redraw.proofs.write_list.Met as writing-thm
 use Rattle.lent.proofs.Records.{size, byte, half, device}
 use Rattle.lent.proofs.Walk.{Walk, calls-value, calls-fn, lands-known, leave, proves}
-use Rattle.lent.proofs.call_refusal.Symbol as number-def
-use Rattle.lent.proofs.call_refusal.Met as number-thm
+use Rattle.lent.proofs.call_refusal as fn-number
 use Rattle.chain.proofs.Answers.{planAnswer}
 use Rattle.chain.proofs.Steps.{CallRefusal, numbers}
-use Rattle.chain.proofs.max6954_plan.Key as key
 use Rattle.chain.proofs.max6954_plan as planning
-use Rattle.chain.proofs.max6954_plan.Statement as stated
-use Rattle.chain.proofs.max6954_plan.Code as code
 
 abbrev R : RattleType
 R = device .row
@@ -83,12 +62,12 @@ module _ {M : Type 1} (𝓤 : URA M) (H : Heap 𝓤) (A : Atoms 𝓤) (W : Given
   abbrev at-writing : Bound 𝓤 H A writing.signature
   at-writing = ((κ, (κ₁, (κ₂, tt))), (q, (q₁, (q₂, tt))), tt, (x, (number, (wanted, (list, (most, tt))))), (slice-vals x, (byte .val number ∷ [], (slice-vals wanted, (slice-vals list, (size .val most ∷ [], tt))))))
 
-  walk : (𝓣 : Tables 𝓤 H) → Triple 𝓤 (𝓣 .C number-def.name) (CallRefusal 𝓤 H A mem run) → Triple 𝓤 (𝓣 .C own-def.name) (tripleOf 𝓤 H A own′.signature (own′.spec 𝓤 H A mem run))
-      → Triple 𝓤 (𝓣 .C reaching-def.name) (tripleOf 𝓤 H A reaching.signature (reaching.spec 𝓤 H A mem run)) → Triple 𝓤 (𝓣 .C room-def.name) (tripleOf 𝓤 H A room′.signature (room′.spec 𝓤 H A mem run))
-      → Triple 𝓤 (𝓣 .C writing-def.name) (tripleOf 𝓤 H A writing.signature (writing.spec 𝓤 H A mem run)) → Triple 𝓤 (𝓣 .C last-def.name) (tripleOf 𝓤 H A last′.signature (last′.spec 𝓤 H A mem run))
-      → Room R n → Room (byte .row) (length (wanted .now)) → Room S (length (list .now)) → Walk 𝓤 H A planning.ended stayed (planning.clauses 𝓤 H A mem run) 𝓣 code.function y tt
+  walk : (𝓣 : Tables 𝓤 H) → Triple 𝓤 (𝓣 .C fn-number.Symbol.name) (CallRefusal 𝓤 H A mem run) → Triple 𝓤 (𝓣 .C own′.Symbol.name) (tripleOf 𝓤 H A own′.signature (own′.spec 𝓤 H A mem run))
+      → Triple 𝓤 (𝓣 .C reaching.Symbol.name) (tripleOf 𝓤 H A reaching.signature (reaching.spec 𝓤 H A mem run)) → Triple 𝓤 (𝓣 .C room′.Symbol.name) (tripleOf 𝓤 H A room′.signature (room′.spec 𝓤 H A mem run))
+      → Triple 𝓤 (𝓣 .C writing.Symbol.name) (tripleOf 𝓤 H A writing.signature (writing.spec 𝓤 H A mem run)) → Triple 𝓤 (𝓣 .C last′.Symbol.name) (tripleOf 𝓤 H A last′.signature (last′.spec 𝓤 H A mem run))
+      → Room R n → Room (byte .row) (length (wanted .now)) → Room S (length (list .now)) → Walk 𝓤 H A planning.ended stayed (planning.clauses 𝓤 H A mem run) 𝓣 planning.Code.function y tt
   walk 𝓣 known-number known-own known-reaching known-room known-writing known-last room room₁ room₂ =
-      qed W ((‵ (flft κ q) ⊛ ‵ (flft κ₁ q₁) ⊛ ‵ (flft κ₂ q₂) ⊛ ‵ ftrue) ∷ ‵ (owns (ShrSlice (named 0) κ R ∷ ShrSlice (named 1) κ₁ (byte .row) ∷ MutSlice (named 2) κ₂ S ∷ []) (y .3) (y .4)) ∷ []) ∵ enter ! (𝓣 .C) (𝓣 .Λ) code.function _ _ $
+      qed W ((‵ (flft κ q) ⊛ ‵ (flft κ₁ q₁) ⊛ ‵ (flft κ₂ q₂) ⊛ ‵ ftrue) ∷ ‵ (owns (ShrSlice (named 0) κ R ∷ ShrSlice (named 1) κ₁ (byte .row) ∷ MutSlice (named 2) κ₂ S ∷ []) (y .3) (y .4)) ∷ []) ∵ enter ! (𝓣 .C) (𝓣 .Λ) planning.Code.function _ _ $
       alloc1 ! (λ l0. alloc1 ! (λ l1. alloc1 ! (λ l2. alloc1 ! (λ l3. alloc1 ! (λ l4. alloc1 ! (λ l5. alloc1 ! (λ l6. alloc1 ! (λ l7. alloc1 ! (λ l8. alloc1 ! (λ l9. alloc1 ! (λ l10. alloc1 ! (λ l11. alloc1 ! (λ l12. alloc0 ! $ params1 ! $
       pass1 ! (init ! 22 refl (tt, (tt, (record { fits = room .0 }, tt)))) $ pass1 ! (init ! 20 refl (tt, (tt, (record { fits = room₁ .0 }, tt)))) $ pass1 ! (init ! 18 refl (tt, (tt, (record { fits = room₂ .0 }, tt)))) $ pass0 ! $
       -- [_12; …; _11; …; ..; _0; …; the tokens; what the parameters own]
@@ -130,13 +109,13 @@ module _ {M : Type 1} (𝓤 : URA M) (H : Heap 𝓤) (A : Atoms 𝓤) (W : Given
       suffices ! _ (ends-at 𝓤 H A planning.ended stayed (planning.clauses 𝓤 H A mem run) W (y, tt) (planAnswer .val (record { number = number; accesses = if (eqb number 0) most 0 })) (record { number = number; accesses = if (eqb number 0) most 0 }) (tt, (tt, (left, tt))) (tt, (tt, (length-listed ys (wanted .now) (list .now) most (toPass number n), tt)))) $ says ! (plan-outcome ys (wanted .now) (list .now)) $
       move ! (1 ∷ []) $ use1 W (‵ (flft κ q) ⊛ ‵ (flft κ₁ q₁) ⊛ ‵ (flft κ₂ q₂) ⊛ ‵ ftrue) (id⊢ 𝓤 _) $ frame ! $ nothing ! $ move ! (1 ∷ 0 ∷ []) $ fjoin ! $ nothing ! $ fjoin ! $ nothing ! $ fjoin ! $ frame ! $ owned ! (planAnswer .row) (Is (planAnswer .row)) (planAnswer .makes 𝓤 H A W) (record { number = number; accesses = if (eqb number 0) most 0 }) _ is-r $ done !))))))))))))))))))))))
 
-pub max6954-plan-spec : {M : Type 1} → stated.statement M
-unfolding code.routine tablesOf
+pub max6954-plan-spec : {M : Type 1} → planning.Statement.statement M
+unfolding planning.Code.routine tablesOf
 max6954-plan-spec 𝓤 H 𝓜 𝓖 𝓡 =
     let W = givenOf 𝓤 H 𝓜 𝓖 in
-    proves 𝓤 H 𝓜 𝓖 𝓡 code.env planning.ended stayed (planning.clauses 𝓤 H (𝓖 .A) (𝓜 .mem) (𝓡 .run)) (goes-dropped 𝓤 H (𝓖 .A) W 3 (shrSliceOf (0 ∷ []) tt (plain (λ _. R))) yes (λ κs x f. refl), (goes-dropped 𝓤 H (𝓖 .A) W 3 (shrSliceOf (1 ∷ []) tt (plain (λ _. byte .row))) yes (λ κs x f. refl), (goes-gave-slice 𝓤 H (𝓖 .A) W 3 2 tt (plain (λ _. S)), tt)))
-    key.name code.function (code.unfolded 𝓤 H 𝓜 𝓡) (λ κs. (slice-vals, (slice-vals, (slice-vals, tt)))) (λ κs. (shr-slice-tells (named 0) (κs .0) R, (shr-slice-tells (named 1) (κs .1 .0) (byte .row), (mut-slice-tells (named 2) (κs .1 .1 .0) S, tt))))
-    (λ κs qs bounds a g are. via 𝓤 _ (fst∗ 𝓤 _ (emp 𝓤)) (walk 𝓤 H (𝓖 .A) W (𝓜 .mem) (𝓡 .run) (κs .0) (κs .1 .0) (κs .1 .1 .0) (qs .0) (qs .1 .0) (qs .1 .1 .0) (a .0) (a .1 .0) (a .1 .1 .0) (tablesOf 𝓤 H 𝓜 (tables 𝓤 H 𝓜 𝓡 code.env))
-    (cited 𝓤 H _ 𝓜 𝓡 code.env number-def.name number-def.routine code.calls-lent·call-refusal (number-thm.met 𝓤 H 𝓜 𝓖 𝓡)) (cited 𝓤 H _ 𝓜 𝓡 code.env own-def.name own-def.routine code.calls-planner·wanted-refusal (own-thm.met 𝓤 H 𝓜 𝓖 𝓡))
-    (cited 𝓤 H _ 𝓜 𝓡 code.env reaching-def.name reaching-def.routine code.calls-redraw·accesses (reaching-thm.met 𝓤 H 𝓜 𝓖 𝓡)) (cited 𝓤 H _ 𝓜 𝓡 code.env room-def.name room-def.routine code.calls-planner·list-refusal (room-thm.met 𝓤 H 𝓜 𝓖 𝓡))
-    (cited 𝓤 H _ 𝓜 𝓡 code.env writing-def.name writing-def.routine code.calls-redraw·write-list (writing-thm.met 𝓤 H 𝓜 𝓖 𝓡)) (cited 𝓤 H _ 𝓜 𝓡 code.env last-def.name last-def.routine code.calls-planner·plan-answer (last-thm.met 𝓤 H 𝓜 𝓖 𝓡)) (are .0 .0 .1) (are .1 .0 .0 .1) (are .1 .1 .0 .0 .1)))
+    proves 𝓤 H 𝓜 𝓖 𝓡 planning.Code.env planning.ended stayed (planning.clauses 𝓤 H (𝓖 .A) (𝓜 .mem) (𝓡 .run)) (goes-dropped 𝓤 H (𝓖 .A) W 3 (shrSliceOf (0 ∷ []) tt (plain (λ _. R))) yes (λ κs x f. refl), (goes-dropped 𝓤 H (𝓖 .A) W 3 (shrSliceOf (1 ∷ []) tt (plain (λ _. byte .row))) yes (λ κs x f. refl), (goes-gave-slice 𝓤 H (𝓖 .A) W 3 2 tt (plain (λ _. S)), tt)))
+    planning.Key.name planning.Code.function (planning.Code.unfolded 𝓤 H 𝓜 𝓡) (λ κs. (slice-vals, (slice-vals, (slice-vals, tt)))) (λ κs. (shr-slice-tells (named 0) (κs .0) R, (shr-slice-tells (named 1) (κs .1 .0) (byte .row), (mut-slice-tells (named 2) (κs .1 .1 .0) S, tt))))
+    (λ κs qs bounds a g are. via 𝓤 _ (fst∗ 𝓤 _ (emp 𝓤)) (walk 𝓤 H (𝓖 .A) W (𝓜 .mem) (𝓡 .run) (κs .0) (κs .1 .0) (κs .1 .1 .0) (qs .0) (qs .1 .0) (qs .1 .1 .0) (a .0) (a .1 .0) (a .1 .1 .0) (tablesOf 𝓤 H 𝓜 (tables 𝓤 H 𝓜 𝓡 planning.Code.env))
+    (cited 𝓤 H _ 𝓜 𝓡 planning.Code.env fn-number.Symbol.name fn-number.Symbol.routine planning.Code.calls-lent·call-refusal (fn-number.Met.met 𝓤 H 𝓜 𝓖 𝓡)) (cited 𝓤 H _ 𝓜 𝓡 planning.Code.env own′.Symbol.name own′.Symbol.routine planning.Code.calls-planner·wanted-refusal (own′.Met.met 𝓤 H 𝓜 𝓖 𝓡))
+    (cited 𝓤 H _ 𝓜 𝓡 planning.Code.env reaching.Symbol.name reaching.Symbol.routine planning.Code.calls-redraw·accesses (reaching.Met.met 𝓤 H 𝓜 𝓖 𝓡)) (cited 𝓤 H _ 𝓜 𝓡 planning.Code.env room′.Symbol.name room′.Symbol.routine planning.Code.calls-planner·list-refusal (room′.Met.met 𝓤 H 𝓜 𝓖 𝓡))
+    (cited 𝓤 H _ 𝓜 𝓡 planning.Code.env writing.Symbol.name writing.Symbol.routine planning.Code.calls-redraw·write-list (writing.Met.met 𝓤 H 𝓜 𝓖 𝓡)) (cited 𝓤 H _ 𝓜 𝓡 planning.Code.env last′.Symbol.name last′.Symbol.routine planning.Code.calls-planner·plan-answer (last′.Met.met 𝓤 H 𝓜 𝓖 𝓡)) (are .0 .0 .1) (are .1 .0 .0 .1) (are .1 .1 .0 .0 .1)))

@@ -1,37 +1,21 @@
 -- `chain::max6954_plan_check` meets its contract: a walk of its MIR, by hand. The chain is passed to `call_refusal` and, with the lent bytes and words, to `accepted`.
 -- Assumes nothing.
-use Prim.Native.Nat.{_%_}
-use mathlib.Core.Bool.{Bool, _&&_}
-use lib.Dec.{eqb, ltb}
-use denote.Signature.{shrSliceOf}
-use denote.Slice.{shr-slice-copy}
-use denote.Triple.Walked.{stay-dropped, goes-dropped}
-use Rattle.lent.proofs.Logic.{_≡_, refl, ℕ, List, [], _∷_, lit<, length, URA, named, SProp, emp, id⊢, via, fst∗, Lft, Share, ftrue, flft, Memory, Routine, Heap, Tables, Atoms, Fun, givenOf, tables, tablesOf, Given, ‵, raw, _⊛_, _$_, _∵_, !, qed, move, drop, use1, use2, split, join, fsplit, fjoin, suffices, frame, done, whole, sub, look-in, look, init, store, stop, fld, from, load, lit, of-opd, and-then, no-more, assigns, land, returns, enter, alloc1, alloc0, params1, pass1, pass0, free0, fmOf, RattleType, owns, Is, RefT, ShrSlice, Room, slice-vals, shr-slice-tells, plain, nothing, owned, onEntry, Bound, tripleOf, Triple, cited, says, Stays, ends-at, yes}
-use Rattle.ground.specs.Choice.{if}
+use Rattle.ground.proofs.Names.{_%_, Bool, _&&_, eqb, ltb, if}
+use Rattle.lent.proofs.Logic.{_≡_, refl, ℕ, List, [], _∷_, lit<, length, URA, named, SProp, emp, id⊢, via, fst∗, Lft, Share, ftrue, flft, Memory, Routine, Heap, Tables, Atoms, Fun, givenOf, tables, tablesOf, Given, ‵, raw, _⊛_, _$_, _∵_, !, qed, move, drop, use1, use2, split, join, fsplit, fjoin, suffices, frame, done, whole, sub, look-in, look, init, store, stop, fld, from, load, lit, of-opd, and-then, no-more, assigns, land, returns, enter, alloc1, alloc0, params1, pass1, pass0, free0, fmOf, RattleType, owns, Is, RefT, ShrSlice, Room, slice-vals, shr-slice-tells, plain, nothing, owned, onEntry, Bound, tripleOf, Triple, cited, says, Stays, ends-at, yes, shrSliceOf, shr-slice-copy, stay-dropped, goes-dropped}
 use Rattle.refusals.specs.Refusals.{wantedRefusal, firstOf}
 use Rattle.device.specs.declared.Device.{Device}
 use Rattle.pass.specs.Found.{toPass}
 use Rattle.planner.specs.OneDriver.{acceptTo}
 use Rattle.planner.proofs.wanted_refusal as own′
-use Rattle.planner.proofs.wanted_refusal.Symbol as own-def
-use Rattle.planner.proofs.wanted_refusal.Met as own-thm
 use Rattle.planner.proofs.check_answer as last′
-use Rattle.planner.proofs.check_answer.Symbol as last-def
-use Rattle.planner.proofs.check_answer.Met as last-thm
 use Rattle.redraw.proofs.CallLaws.{early, own, check-outcome}
 use Rattle.redraw.proofs.accepted as accepted
-use Rattle.redraw.proofs.accepted.Symbol as accepted-def
-use Rattle.redraw.proofs.accepted.Met as accepted-thm
 use Rattle.lent.proofs.Records.{size, byte, half, device}
 use Rattle.lent.proofs.Walk.{Walk, flag, calls-value, calls-fn, lands-known, leave, proves}
-use Rattle.lent.proofs.call_refusal.Symbol as number-def
-use Rattle.lent.proofs.call_refusal.Met as number-thm
+use Rattle.lent.proofs.call_refusal as fn-number
 use Rattle.chain.proofs.Answers.{planCheckAnswer}
 use Rattle.chain.proofs.Steps.{CallRefusal, numbers}
-use Rattle.chain.proofs.max6954_plan_check.Key as key
 use Rattle.chain.proofs.max6954_plan_check as plan-check
-use Rattle.chain.proofs.max6954_plan_check.Statement as stated
-use Rattle.chain.proofs.max6954_plan_check.Code as code
 
 abbrev R : RattleType
 R = device .row
@@ -62,11 +46,11 @@ module _ {M : Type 1} (𝓤 : URA M) (H : Heap 𝓤) (A : Atoms 𝓤) (W : Given
   abbrev at-accepted : Bound 𝓤 H A accepted.signature
   at-accepted = ((κ, (κ₁, (κ₂, tt))), (q, (q₁, (q₂, tt))), tt, (x, (number, (n, (wanted, (list, tt))))), (slice-vals x, (byte .val number ∷ [], (size .val n ∷ [], (slice-vals wanted, (slice-vals list, tt))))))
 
-  walk : (𝓣 : Tables 𝓤 H) → Triple 𝓤 (𝓣 .C number-def.name) (CallRefusal 𝓤 H A mem run) → Triple 𝓤 (𝓣 .C own-def.name) (tripleOf 𝓤 H A own′.signature (own′.spec 𝓤 H A mem run))
-      → Triple 𝓤 (𝓣 .C accepted-def.name) (tripleOf 𝓤 H A accepted.signature (accepted.spec 𝓤 H A mem run)) → Triple 𝓤 (𝓣 .C last-def.name) (tripleOf 𝓤 H A last′.signature (last′.spec 𝓤 H A mem run))
-      → Room R n → Room (byte .row) (length (wanted .now)) → Room (half .row) (length (list .now)) → Walk 𝓤 H A plan-check.ended stayed (plan-check.clauses 𝓤 H A mem run) 𝓣 code.function y tt
+  walk : (𝓣 : Tables 𝓤 H) → Triple 𝓤 (𝓣 .C fn-number.Symbol.name) (CallRefusal 𝓤 H A mem run) → Triple 𝓤 (𝓣 .C own′.Symbol.name) (tripleOf 𝓤 H A own′.signature (own′.spec 𝓤 H A mem run))
+      → Triple 𝓤 (𝓣 .C accepted.Symbol.name) (tripleOf 𝓤 H A accepted.signature (accepted.spec 𝓤 H A mem run)) → Triple 𝓤 (𝓣 .C last′.Symbol.name) (tripleOf 𝓤 H A last′.signature (last′.spec 𝓤 H A mem run))
+      → Room R n → Room (byte .row) (length (wanted .now)) → Room (half .row) (length (list .now)) → Walk 𝓤 H A plan-check.ended stayed (plan-check.clauses 𝓤 H A mem run) 𝓣 plan-check.Code.function y tt
   walk 𝓣 known-number known-own known-accepted known-last room room₁ room₂ =
-      qed W ((‵ (flft κ q) ⊛ ‵ (flft κ₁ q₁) ⊛ ‵ (flft κ₂ q₂) ⊛ ‵ ftrue) ∷ ‵ (owns (ShrSlice (named 0) κ R ∷ ShrSlice (named 1) κ₁ (byte .row) ∷ ShrSlice (named 2) κ₂ (half .row) ∷ []) (y .3) (y .4)) ∷ []) ∵ enter ! (𝓣 .C) (𝓣 .Λ) code.function _ _ $
+      qed W ((‵ (flft κ q) ⊛ ‵ (flft κ₁ q₁) ⊛ ‵ (flft κ₂ q₂) ⊛ ‵ ftrue) ∷ ‵ (owns (ShrSlice (named 0) κ R ∷ ShrSlice (named 1) κ₁ (byte .row) ∷ ShrSlice (named 2) κ₂ (half .row) ∷ []) (y .3) (y .4)) ∷ []) ∵ enter ! (𝓣 .C) (𝓣 .Λ) plan-check.Code.function _ _ $
       alloc1 ! (λ l0. alloc1 ! (λ l1. alloc1 ! (λ l2. alloc1 ! (λ l3. alloc1 ! (λ l4. alloc1 ! (λ l5. alloc1 ! (λ l6. alloc1 ! (λ l7. alloc1 ! (λ l8. alloc0 ! $ params1 ! $
       pass1 ! (init ! 14 refl (tt, (tt, (record { fits = room .0 }, tt)))) $ pass1 ! (init ! 12 refl (tt, (tt, (record { fits = room₁ .0 }, tt)))) $ pass1 ! (init ! 10 refl (tt, (tt, (record { fits = room₂ .0 }, tt)))) $ pass0 ! $
       -- [_8; …; _7; …; ..; _0; …; the tokens; what the parameters own]
@@ -91,12 +75,12 @@ module _ {M : Type 1} (𝓤 : URA M) (H : Heap 𝓤) (A : Atoms 𝓤) (W : Given
       suffices ! _ (ends-at 𝓤 H A plan-check.ended stayed (plan-check.clauses 𝓤 H A mem run) W (y, tt) (planCheckAnswer .val (record { number = number; accepted = yes-or-no })) (record { number = number; accepted = yes-or-no }) (tt, (tt, (tt, tt))) (tt, (tt, (tt, tt)))) $ says ! (check-outcome ys (wanted .now) (list .now)) $
       use1 W (‵ (flft κ q) ⊛ ‵ (flft κ₁ q₁) ⊛ ‵ (flft κ₂ q₂) ⊛ ‵ ftrue) (id⊢ 𝓤 _) $ frame ! $ nothing ! $ nothing ! $ fjoin ! $ nothing ! $ fjoin ! $ nothing ! $ fjoin ! $ frame ! $ owned ! (planCheckAnswer .row) (Is (planCheckAnswer .row)) (planCheckAnswer .makes 𝓤 H A W) (record { number = number; accepted = yes-or-no }) _ is-r $ done !))))))))))))))
 
-pub max6954-plan-check-spec : {M : Type 1} → stated.statement M
-unfolding code.routine tablesOf
+pub max6954-plan-check-spec : {M : Type 1} → plan-check.Statement.statement M
+unfolding plan-check.Code.routine tablesOf
 max6954-plan-check-spec 𝓤 H 𝓜 𝓖 𝓡 =
     let W = givenOf 𝓤 H 𝓜 𝓖 in
-    proves 𝓤 H 𝓜 𝓖 𝓡 code.env plan-check.ended stayed (plan-check.clauses 𝓤 H (𝓖 .A) (𝓜 .mem) (𝓡 .run)) (goes-dropped 𝓤 H (𝓖 .A) W 3 (shrSliceOf (0 ∷ []) tt (plain (λ _. R))) yes (λ κs x f. refl), (goes-dropped 𝓤 H (𝓖 .A) W 3 (shrSliceOf (1 ∷ []) tt (plain (λ _. byte .row))) yes (λ κs x f. refl), (goes-dropped 𝓤 H (𝓖 .A) W 3 (shrSliceOf (2 ∷ []) tt (plain (λ _. half .row))) yes (λ κs x f. refl), tt)))
-    key.name code.function (code.unfolded 𝓤 H 𝓜 𝓡) (λ κs. (slice-vals, (slice-vals, (slice-vals, tt)))) (λ κs. (shr-slice-tells (named 0) (κs .0) R, (shr-slice-tells (named 1) (κs .1 .0) (byte .row), (shr-slice-tells (named 2) (κs .1 .1 .0) (half .row), tt))))
-    (λ κs qs bounds a g are. via 𝓤 _ (fst∗ 𝓤 _ (emp 𝓤)) (walk 𝓤 H (𝓖 .A) W (𝓜 .mem) (𝓡 .run) (κs .0) (κs .1 .0) (κs .1 .1 .0) (qs .0) (qs .1 .0) (qs .1 .1 .0) (a .0) (a .1 .0) (a .1 .1 .0) (tablesOf 𝓤 H 𝓜 (tables 𝓤 H 𝓜 𝓡 code.env))
-    (cited 𝓤 H _ 𝓜 𝓡 code.env number-def.name number-def.routine code.calls-lent·call-refusal (number-thm.met 𝓤 H 𝓜 𝓖 𝓡)) (cited 𝓤 H _ 𝓜 𝓡 code.env own-def.name own-def.routine code.calls-planner·wanted-refusal (own-thm.met 𝓤 H 𝓜 𝓖 𝓡))
-    (cited 𝓤 H _ 𝓜 𝓡 code.env accepted-def.name accepted-def.routine code.calls-redraw·accepted (accepted-thm.met 𝓤 H 𝓜 𝓖 𝓡)) (cited 𝓤 H _ 𝓜 𝓡 code.env last-def.name last-def.routine code.calls-planner·check-answer (last-thm.met 𝓤 H 𝓜 𝓖 𝓡)) (are .0 .0 .1) (are .1 .0 .0 .1) (are .1 .1 .0 .0 .1)))
+    proves 𝓤 H 𝓜 𝓖 𝓡 plan-check.Code.env plan-check.ended stayed (plan-check.clauses 𝓤 H (𝓖 .A) (𝓜 .mem) (𝓡 .run)) (goes-dropped 𝓤 H (𝓖 .A) W 3 (shrSliceOf (0 ∷ []) tt (plain (λ _. R))) yes (λ κs x f. refl), (goes-dropped 𝓤 H (𝓖 .A) W 3 (shrSliceOf (1 ∷ []) tt (plain (λ _. byte .row))) yes (λ κs x f. refl), (goes-dropped 𝓤 H (𝓖 .A) W 3 (shrSliceOf (2 ∷ []) tt (plain (λ _. half .row))) yes (λ κs x f. refl), tt)))
+    plan-check.Key.name plan-check.Code.function (plan-check.Code.unfolded 𝓤 H 𝓜 𝓡) (λ κs. (slice-vals, (slice-vals, (slice-vals, tt)))) (λ κs. (shr-slice-tells (named 0) (κs .0) R, (shr-slice-tells (named 1) (κs .1 .0) (byte .row), (shr-slice-tells (named 2) (κs .1 .1 .0) (half .row), tt))))
+    (λ κs qs bounds a g are. via 𝓤 _ (fst∗ 𝓤 _ (emp 𝓤)) (walk 𝓤 H (𝓖 .A) W (𝓜 .mem) (𝓡 .run) (κs .0) (κs .1 .0) (κs .1 .1 .0) (qs .0) (qs .1 .0) (qs .1 .1 .0) (a .0) (a .1 .0) (a .1 .1 .0) (tablesOf 𝓤 H 𝓜 (tables 𝓤 H 𝓜 𝓡 plan-check.Code.env))
+    (cited 𝓤 H _ 𝓜 𝓡 plan-check.Code.env fn-number.Symbol.name fn-number.Symbol.routine plan-check.Code.calls-lent·call-refusal (fn-number.Met.met 𝓤 H 𝓜 𝓖 𝓡)) (cited 𝓤 H _ 𝓜 𝓡 plan-check.Code.env own′.Symbol.name own′.Symbol.routine plan-check.Code.calls-planner·wanted-refusal (own′.Met.met 𝓤 H 𝓜 𝓖 𝓡))
+    (cited 𝓤 H _ 𝓜 𝓡 plan-check.Code.env accepted.Symbol.name accepted.Symbol.routine plan-check.Code.calls-redraw·accepted (accepted.Met.met 𝓤 H 𝓜 𝓖 𝓡)) (cited 𝓤 H _ 𝓜 𝓡 plan-check.Code.env last′.Symbol.name last′.Symbol.routine plan-check.Code.calls-planner·check-answer (last′.Met.met 𝓤 H 𝓜 𝓖 𝓡)) (are .0 .0 .1) (are .1 .0 .0 .1) (are .1 .1 .0 .0 .1)))

@@ -1,6 +1,5 @@
 -- `device::next_address` meets its contract. Assumes nothing.
-use Rattle.ground.proofs.Tests.{tests}
-use borrow.Author.Needs.{needs}
+use Rattle.ground.proofs.Names.{tests, needs}
 use Rattle.device.proofs.next_address.Statement.{statement}
 use Rattle.device.proofs.next_address.Tie as tie
 

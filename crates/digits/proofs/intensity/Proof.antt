@@ -1,6 +1,5 @@
 -- `digits::intensity` meets its contract. Assumes nothing.
-use Rattle.ground.proofs.Arrays.{past}
-use borrow.Author.Needs.{needs}
+use Rattle.ground.proofs.Names.{past, needs}
 use Rattle.digits.proofs.intensity.Statement.{statement}
 use Rattle.digits.proofs.intensity.Tie as tie
 

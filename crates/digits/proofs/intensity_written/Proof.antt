@@ -1,6 +1,5 @@
 -- `digits::intensity_written` meets its contract. Assumes nothing.
-use Rattle.ground.proofs.Arrays.{kept}
-use borrow.Author.Needs.{needs}
+use Rattle.ground.proofs.Names.{kept, needs}
 use Rattle.digits.proofs.intensity_written.Statement.{statement}
 use Rattle.digits.proofs.intensity_written.Tie as tie
 

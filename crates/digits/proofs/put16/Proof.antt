@@ -1,6 +1,5 @@
 -- `digits::put16` meets its contract. Assumes nothing.
-use Rattle.ground.proofs.Arrays.{kept}
-use borrow.Author.Needs.{needs}
+use Rattle.ground.proofs.Names.{kept, needs}
 use Rattle.digits.proofs.put16.Statement.{statement}
 use Rattle.digits.proofs.put16.Tie as tie
 

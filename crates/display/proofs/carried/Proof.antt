@@ -1,5 +1,5 @@
 -- `display::carried` meets its contract. Assumes nothing.
-use borrow.Author.Needs.{needs}
+use Rattle.ground.proofs.Names.{needs}
 use Rattle.display.proofs.carried.Statement.{statement}
 use Rattle.display.proofs.carried.Tie as tie
 

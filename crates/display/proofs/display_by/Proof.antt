@@ -1,5 +1,5 @@
 -- `display::display_by` meets its contract. Assumes nothing.
-use borrow.Author.Needs.{needs}
+use Rattle.ground.proofs.Names.{needs}
 use Rattle.display.proofs.display_by.Statement.{statement}
 use Rattle.display.proofs.display_by.Tie as tie
 

@@ -1,6 +1,6 @@
 -- `display::eight_pins` meets its contract. Assumes nothing.
 use Rattle.display.specs.PackedPins.{eightPins}
-use borrow.Author.Needs.{needs}
+use Rattle.ground.proofs.Names.{needs}
 use Rattle.display.proofs.eight_pins.Statement.{statement}
 use Rattle.display.proofs.eight_pins.Tie as tie
 

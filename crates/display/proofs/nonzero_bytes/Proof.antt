@@ -1,7 +1,5 @@
 -- `display::nonzero_bytes` meets its contract. Assumes nothing.
-use native.Mathlib.Omega.{arith}
-use lib.Bits.{and-le-r}
-use borrow.Author.Needs.{needs}
+use Rattle.ground.proofs.Names.{arith, and-le-r, needs}
 use Rattle.display.proofs.nonzero_bytes.Statement.{statement}
 use Rattle.display.proofs.nonzero_bytes.Tie as tie
 

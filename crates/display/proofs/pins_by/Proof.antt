@@ -1,5 +1,5 @@
 -- `display::pins_by` meets its contract. Assumes nothing.
-use borrow.Author.Needs.{needs}
+use Rattle.ground.proofs.Names.{needs}
 use Rattle.display.proofs.pins_by.Statement.{statement}
 use Rattle.display.proofs.pins_by.Tie as tie
 
@@ -8,10 +8,4 @@ returns c = simp (c .before .before .before .eight-pins .ensures, c .before .bef
 
 pub pins-by-spec : {M : Type 1} → statement M
 pins-by-spec =
-    tie.close
-    (tie.spec
-    (λ c κs. search needs)
-    (λ c κs. search needs)
-    (λ c κs. search needs)
-    (λ c κs. search needs)
-    returns)
+    tie.close (tie.spec (λ c κs. search needs) (λ c κs. search needs) (λ c κs. search needs) (λ c κs. search needs) returns)

@@ -1,10 +1,5 @@
 -- `display::pins_of` meets its contract. The invariant: p pins are written, and the rest is as it was. Assumes nothing.
-use Prim.Native.Nat.{_-_, _%_}
-use native.Mathlib.Omega.{arith}
-use mathlib.Core.List.{append-nil}
-use mathlib.Core.Path.{_∙_}
-use borrow.Author.Needs.{needs}
-use Rattle.ground.proofs.Filled.{Filled, filled-start, filled-more, filled-all}
+use Rattle.ground.proofs.Names.{_-_, _%_, arith, append-nil, _∙_, needs, Filled, filled-start, filled-more, filled-all}
 use Rattle.wiring.specs.PackedRows.{byteOf}
 use Rattle.display.specs.PackedPins.{wordAt}
 use Rattle.display.proofs.pins_of.Statement.{statement}
@@ -22,14 +17,5 @@ loop-again c = filled-more _ (c .before .before .before .loop .inv) (omega arith
 pub pins-of-spec : {M : Type 1} → statement M
 pins-of-spec =
     tie.close
-    (tie.spec
-    Inv-loop
-    μ-loop
-    (λ c. filled-start)
-    (λ c κs. search needs)
-    (λ c κs. search needs)
-    (λ c. search needs)
-    (λ c. search needs)
-    (λ c. omega arith)
-    loop-again
-    (λ c. filled-all (c .before .loop .inv) (omega arith) ∙ append-nil _))
+    (tie.spec Inv-loop μ-loop (λ c. filled-start) (λ c κs. search needs) (λ c κs. search needs) (λ c. search needs) (λ c. search needs) (λ c. omega arith)
+    loop-again (λ c. filled-all (c .before .loop .inv) (omega arith) ∙ append-nil _))

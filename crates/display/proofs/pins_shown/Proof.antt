@@ -1,9 +1,6 @@
 -- `display::pins_shown` meets its contract. Assumes nothing.
-use mathlib.Core.Path.{sym, _∙_}
-use native.Mathlib.Omega.{arith}
-use Rattle.ground.specs.Lists.{tabulate}
+use Rattle.ground.proofs.Names.{sym, _∙_, arith, tabulate, needs}
 use Rattle.display.proofs.Wires.{pins-dark, pins-lit}
-use borrow.Author.Needs.{needs}
 use Rattle.display.proofs.pins_shown.Statement.{statement}
 use Rattle.display.proofs.pins_shown.Tie as tie
 
@@ -44,19 +41,6 @@ returns-2 c =
 pub pins-shown-spec : {M : Type 1} → statement M
 pins-shown-spec =
     tie.close
-    (tie.spec
-    (λ c κs. search needs)
-    returns
-    (λ c. search needs)
-    (λ c κs. search needs)
-    (λ c κs. search needs)
-    (λ c. search needs)
-    (λ c κs. search needs)
-    (λ c κs. search needs)
-    (λ c. search needs)
-    (λ c κs. search needs)
-    (λ c κs. search needs)
-    (λ c κs. search needs)
-    (λ c. search needs)
-    (λ c κs. search needs)
+    (tie.spec (λ c κs. search needs) returns (λ c. search needs) (λ c κs. search needs) (λ c κs. search needs) (λ c. search needs) (λ c κs. search needs)
+    (λ c κs. search needs) (λ c. search needs) (λ c κs. search needs) (λ c κs. search needs) (λ c κs. search needs) (λ c. search needs) (λ c κs. search needs)
     returns-2)

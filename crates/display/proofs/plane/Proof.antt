@@ -1,5 +1,5 @@
 -- `display::plane` meets its contract. Assumes nothing.
-use borrow.Author.Needs.{needs}
+use Rattle.ground.proofs.Names.{needs}
 use Rattle.display.proofs.plane.Statement.{statement}
 use Rattle.display.proofs.plane.Tie as tie
 

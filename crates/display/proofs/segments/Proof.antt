@@ -1,9 +1,6 @@
 -- `display::segments` meets its contract. Assumes nothing.
-use Rattle.ground.specs.Lists.{tabulate}
-use borrow.Author.Tests.{ne-eqb}
-use mathlib.Core.Path.{sym, _∙_}
+use Rattle.ground.proofs.Names.{tabulate, ne-eqb, sym, _∙_, needs}
 use Rattle.refusals.proofs.RefusalLaws.{segments-served}
-use borrow.Author.Needs.{needs}
 use Rattle.display.proofs.segments.Statement.{statement}
 use Rattle.display.proofs.segments.Tie as tie
 

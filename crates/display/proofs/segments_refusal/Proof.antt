@@ -1,5 +1,5 @@
 -- `display::segments_refusal` meets its contract. Assumes nothing.
-use Rattle.ground.proofs.Tests.{tests}
+use Rattle.ground.proofs.Names.{tests}
 use Rattle.display.proofs.segments_refusal.Statement.{statement}
 use Rattle.display.proofs.segments_refusal.Tie as tie
 

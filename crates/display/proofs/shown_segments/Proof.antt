@@ -1,7 +1,5 @@
 -- `display::shown_segments` meets its contract. Assumes nothing.
-use mathlib.Core.Bool.{false}
-use mathlib.Core.Path.{_≡_}
-use borrow.Author.Needs.{needs}
+use Rattle.ground.proofs.Names.{false, _≡_, needs}
 use Rattle.display.proofs.shown_segments.Statement.{statement}
 use Rattle.display.proofs.shown_segments.Tie as tie
 
@@ -23,14 +21,5 @@ returns-4 c =
 pub shown-segments-spec : {M : Type 1} → statement M
 shown-segments-spec =
     tie.close
-    (tie.spec
-    (λ c. search needs)
-    (λ c. search needs)
-    (λ c κs. search needs)
-    (λ c. search needs)
-    (λ c κs. search needs)
-    (λ c. search needs)
-    (λ c κs. search needs)
-    returns-2
-    returns-3
-    returns-4)
+    (tie.spec (λ c. search needs) (λ c. search needs) (λ c κs. search needs) (λ c. search needs) (λ c κs. search needs) (λ c. search needs)
+    (λ c κs. search needs) returns-2 returns-3 returns-4)

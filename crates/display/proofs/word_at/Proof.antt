@@ -1,5 +1,5 @@
 -- `display::word_at` meets its contract. Assumes nothing.
-use Rattle.ground.proofs.Tests.{tests}
+use Rattle.ground.proofs.Names.{tests}
 use Rattle.display.proofs.word_at.Statement.{statement}
 use Rattle.display.proofs.word_at.Tie as tie
 

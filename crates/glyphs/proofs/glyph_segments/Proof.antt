@@ -1,9 +1,5 @@
 -- `glyphs::glyph_segments` meets its contract. Assumes nothing.
-use mathlib.Core.Path.{refl}
-use Rattle.ground.proofs.Arrays.{past}
-use native.Mathlib.Omega.{arith}
-use Prim.Native.Nat.{_%_}
-use borrow.Author.Needs.{needs}
+use Rattle.ground.proofs.Names.{refl, past, arith, _%_, needs}
 use Rattle.glyphs.proofs.glyph_segments.Statement.{statement}
 use Rattle.glyphs.proofs.glyph_segments.Tie as tie
 
@@ -21,13 +17,5 @@ returns-2 c =
 pub glyph-segments-spec : {M : Type 1} → statement M
 glyph-segments-spec =
     tie.close
-    (tie.spec
-    (λ c. search needs)
-    (λ c. search needs)
-    (λ c. search needs)
-    (λ c. search needs)
-    (λ c. search needs)
-    cast-result
-    add-result
-    (λ c. search needs)
+    (tie.spec (λ c. search needs) (λ c. search needs) (λ c. search needs) (λ c. search needs) (λ c. search needs) cast-result add-result (λ c. search needs)
     returns-2)

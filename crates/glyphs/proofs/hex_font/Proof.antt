@@ -1,9 +1,6 @@
 -- `glyphs::hex_font` meets its contract. Assumes nothing.
-use mathlib.Core.Logic.{⊎-elim}
-use mathlib.Core.Path.{_∙_}
-use borrow.Author.Tests.{lt-ltb, le-ltb}
+use Rattle.ground.proofs.Names.{⊎-elim, _∙_, lt-ltb, le-ltb, needs}
 use Rattle.glyphs.proofs.Hex.{hex-byte}
-use borrow.Author.Needs.{needs}
 use Rattle.glyphs.proofs.hex_font.Statement.{statement}
 use Rattle.glyphs.proofs.hex_font.Tie as tie
 

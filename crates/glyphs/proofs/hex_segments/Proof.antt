@@ -1,6 +1,5 @@
 -- `glyphs::hex_segments` meets its contract. Assumes nothing.
-use Rattle.ground.proofs.Tests.{tests}
-use borrow.Author.Needs.{needs}
+use Rattle.ground.proofs.Names.{tests, needs}
 use Rattle.glyphs.proofs.hex_segments.Statement.{statement}
 use Rattle.glyphs.proofs.hex_segments.Tie as tie
 

@@ -1,6 +1,5 @@
 -- `glyphs::pair_segments` meets its contract. Assumes nothing.
-use native.Mathlib.Omega.{arith}
-use borrow.Author.Needs.{needs}
+use Rattle.ground.proofs.Names.{arith, needs}
 use Rattle.glyphs.proofs.pair_segments.Statement.{statement}
 use Rattle.glyphs.proofs.pair_segments.Tie as tie
 

@@ -1,8 +1,6 @@
 -- `glyphs::seven_segments` meets its contract. Assumes nothing.
-use native.Mathlib.Omega.{arith}
-use mathlib.Core.Path.{refl}
+use Rattle.ground.proofs.Names.{arith, refl, needs}
 use Rattle.glyphs.proofs.Hex.{hex-segments-small}
-use borrow.Author.Needs.{needs}
 use Rattle.glyphs.proofs.seven_segments.Statement.{statement}
 use Rattle.glyphs.proofs.seven_segments.Tie as tie
 

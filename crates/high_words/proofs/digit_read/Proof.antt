@@ -1,5 +1,5 @@
 -- `high_words::digit_read` meets its contract. Assumes nothing.
-use Rattle.ground.proofs.Tests.{tests}
+use Rattle.ground.proofs.Names.{tests}
 use Rattle.high_words.proofs.digit_read.Statement.{statement}
 use Rattle.high_words.proofs.digit_read.Tie as tie
 

@@ -1,5 +1,5 @@
 -- `high_words::new_mark` meets its contract. Assumes nothing.
-use Rattle.ground.proofs.Tests.{tests}
+use Rattle.ground.proofs.Names.{tests}
 use Rattle.high_words.proofs.new_mark.Statement.{statement}
 use Rattle.high_words.proofs.new_mark.Tie as tie
 

@@ -1,6 +1,5 @@
 -- `high_words::new_shift` meets its contract. Assumes nothing.
-use Rattle.ground.proofs.Tests.{tests}
-use borrow.Author.Needs.{needs}
+use Rattle.ground.proofs.Names.{tests, needs}
 use Rattle.high_words.proofs.new_shift.Statement.{statement}
 use Rattle.high_words.proofs.new_shift.Tie as tie
 

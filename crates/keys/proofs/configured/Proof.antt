@@ -1,7 +1,5 @@
 -- `keys::configured` meets its contract. Assumes nothing.
-use native.Mathlib.Omega.{arith}
-use borrow.Author.Tests.{le-ltb}
-use Rattle.ground.proofs.Arms.{past-arms}
+use Rattle.ground.proofs.Names.{arith, le-ltb, past-arms}
 use Rattle.keys.proofs.configured.Statement.{statement}
 use Rattle.keys.proofs.configured.Tie as tie
 

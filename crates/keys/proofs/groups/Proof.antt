@@ -1,5 +1,5 @@
 -- `keys::groups` meets its contract. Assumes nothing.
-use Rattle.ground.proofs.Tests.{tests}
+use Rattle.ground.proofs.Names.{tests}
 use Rattle.keys.proofs.groups.Statement.{statement}
 use Rattle.keys.proofs.groups.Tie as tie
 

@@ -1,7 +1,6 @@
 -- `keys::split` meets its contract. Assumes nothing.
-use native.Mathlib.Nat.{div-one}
+use Rattle.ground.proofs.Names.{div-one, needs}
 use Rattle.keys.specs.PackedKeys.{byteAt}
-use borrow.Author.Needs.{needs}
 use Rattle.keys.proofs.split.Statement.{statement}
 use Rattle.keys.proofs.split.Tie as tie
 

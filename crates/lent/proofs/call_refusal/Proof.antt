@@ -1,10 +1,9 @@
 -- `lent::call_refusal` meets its contract: a walk of its MIR, by hand. The slice is looked into once, before the loop. A turn copies one record out of it and calls `with`.
 -- Assumes nothing.
-use native.Mathlib.Omega.{arith}
+use Rattle.ground.proofs.Names.{arith, take}
 use denote.Struct.Laws as LL
 use Rattle.pass.proofs.Typed.{bytes-of}
 use Rattle.lent.proofs.Logic.{RattleType, _≡_, refl, sym, ap, _∙_, subst, ℕ, zero-le, _+_, _-_, _<_, _≤_, _^_, le-antisymm, List, [], _∷_, lit<, ltb→lt, nltb→le, length, getD, URA, fullShare, named, w64, tyInt, tyPtr, tyBool, vint, vptr, SProp, emp, id⊢, via, fst∗, Lft, GName, Share, ftrue, fat, froom, flft, Memory, Routine, Heap, Tables, Atoms, Fun, givenOf, tables, tablesOf, Given, ‵, _⊛_, _$_, _∵_, !, qed, move, keep, split, join, rewrite, fsplit, fjoin, suffices, frame, done, whole, sub, look-in, look, look-raw, init, store, forget, stop, hop, fld, from, load, lit, of-opd, bin, and-then, no-more, assigns, assigns-last, land, returns, enter, alloc1, alloc0, params1, pass1, pass0, free0, fmOf, owns, Is, shows, RefT, ShrSlice, Room, slice-vals, shr-slice-tells, row, place-is, elem-out, elem-back, looks-slice, shuts-slice, plain, nothing, owned, Bound, tripleOf, Triple, cited, says, Stays, stay-none, stay-none-slice, goes-none, goes-none-slice, ends-at, yes, scaled-fits}
-use lib.ListN.{take}
 use Rattle.device.specs.PowerUp.{powerUp}
 use Rattle.device.specs.declared.Device.{Device}
 use Rattle.device.proofs.Device as T
@@ -15,26 +14,13 @@ use Rattle.pass.specs.declared.Widths.{Widths}
 use Rattle.pass.proofs.WidthLaws.{widths-start, widths-more, all-start, all-more, fit-all}
 use Rattle.pass.proofs.FoundLaws.{pass-below, call-found}
 use Rattle.pass.proofs.by_arguments as early′
-use Rattle.pass.proofs.by_arguments.Symbol as early-def
-use Rattle.pass.proofs.by_arguments.Met as early-thm
 use Rattle.pass.proofs.to_pass as look′
-use Rattle.pass.proofs.to_pass.Symbol as look-def
-use Rattle.pass.proofs.to_pass.Met as look-thm
 use Rattle.pass.proofs.found as last′
-use Rattle.pass.proofs.found.Symbol as last-def
-use Rattle.pass.proofs.found.Met as last-thm
 use Rattle.pass.proofs.Widths.new as none
-use Rattle.pass.proofs.Widths.new.Symbol as none-def
-use Rattle.pass.proofs.Widths.new.Met as none-thm
 use Rattle.pass.proofs.Widths.with as also
-use Rattle.pass.proofs.Widths.with.Symbol as also-def
-use Rattle.pass.proofs.Widths.with.Met as also-thm
 use Rattle.lent.proofs.Records.{size, byte, device, recordBytes, widths}
 use Rattle.lent.proofs.Walk.{Walk, calls-value, leave, leave-room, tests, whiles, proves}
-use Rattle.lent.proofs.call_refusal.Key as key
 use Rattle.lent.proofs.call_refusal as call-refusal
-use Rattle.lent.proofs.call_refusal.Statement as stated
-use Rattle.lent.proofs.call_refusal.Code as code
 
 abbrev R : RattleType
 R = device .row
@@ -73,12 +59,12 @@ module _ {M : Type 1} (𝓤 : URA M) (H : Heap 𝓤) (A : Atoms 𝓤) (W : Given
   abbrev At : Type 0
   At = (i : ℕ) × ((i ≤ m) × (IsWidths (at i) × AllBytes (take i ys)))
 
-  walk : (𝓣 : Tables 𝓤 H) → Triple 𝓤 (𝓣 .C early-def.name) (tripleOf 𝓤 H A early′.signature (early′.spec 𝓤 H A mem run)) → Triple 𝓤 (𝓣 .C look-def.name) (tripleOf 𝓤 H A look′.signature (look′.spec 𝓤 H A mem run))
-      → Triple 𝓤 (𝓣 .C none-def.name) (tripleOf 𝓤 H A none.signature (none.spec 𝓤 H A mem run)) → Triple 𝓤 (𝓣 .C also-def.name) (tripleOf 𝓤 H A also.signature (also.spec 𝓤 H A mem run))
-      → Triple 𝓤 (𝓣 .C last-def.name) (tripleOf 𝓤 H A last′.signature (last′.spec 𝓤 H A mem run))
-      → Room R n → Is (size .row) driver (size .val driver ∷ []) → Is (byte .row) own (byte .val own ∷ []) → Walk 𝓤 H A call-refusal.ended stayed (call-refusal.clauses 𝓤 H A mem run) 𝓣 code.function y tt
+  walk : (𝓣 : Tables 𝓤 H) → Triple 𝓤 (𝓣 .C early′.Symbol.name) (tripleOf 𝓤 H A early′.signature (early′.spec 𝓤 H A mem run)) → Triple 𝓤 (𝓣 .C look′.Symbol.name) (tripleOf 𝓤 H A look′.signature (look′.spec 𝓤 H A mem run))
+      → Triple 𝓤 (𝓣 .C none.Symbol.name) (tripleOf 𝓤 H A none.signature (none.spec 𝓤 H A mem run)) → Triple 𝓤 (𝓣 .C also.Symbol.name) (tripleOf 𝓤 H A also.signature (also.spec 𝓤 H A mem run))
+      → Triple 𝓤 (𝓣 .C last′.Symbol.name) (tripleOf 𝓤 H A last′.signature (last′.spec 𝓤 H A mem run))
+      → Room R n → Is (size .row) driver (size .val driver ∷ []) → Is (byte .row) own (byte .val own ∷ []) → Walk 𝓤 H A call-refusal.ended stayed (call-refusal.clauses 𝓤 H A mem run) 𝓣 call-refusal.Code.function y tt
   walk 𝓣 known-early known-look known-none known-also known-last room is-j is-own =
-      qed W ((‵ (flft κ q) ⊛ ‵ ftrue) ∷ ‵ (owns (ShrSlice (named 0) κ R ∷ size .row ∷ byte .row ∷ []) (y .3) (y .4)) ∷ []) ∵ enter ! (𝓣 .C) (𝓣 .Λ) code.function _ _ $
+      qed W ((‵ (flft κ q) ⊛ ‵ ftrue) ∷ ‵ (owns (ShrSlice (named 0) κ R ∷ size .row ∷ byte .row ∷ []) (y .3) (y .4)) ∷ []) ∵ enter ! (𝓣 .C) (𝓣 .Λ) call-refusal.Code.function _ _ $
       alloc1 ! (λ l₀. alloc1 ! (λ l₁. alloc1 ! (λ l₂. alloc1 ! (λ l₃. alloc1 ! (λ l₄. alloc1 ! (λ l₅. alloc1 ! (λ l₆. alloc1 ! (λ l₇. alloc1 ! (λ l₈. alloc1 ! (λ l₉. alloc1 ! (λ m₀. alloc1 ! (λ m₁. alloc1 ! (λ m₂. alloc0 ! $ params1 ! $
       pass1 ! (init ! 22 refl (tt, (tt, (record { fits = room .0 }, tt)))) $ pass1 ! (init ! 20 refl (size .typed 𝓤 H A W driver is-j)) $ pass1 ! (init ! 18 refl (byte .typed 𝓤 H A W own is-own)) $ pass0 ! $
       -- [_12; …; _11; …; and so on down to _0; …; the token; what the parameters own]
@@ -134,13 +120,13 @@ module _ {M : Type 1} (𝓤 : URA M) (H : Heap 𝓤) (A : Atoms 𝓤) (W : Given
       suffices ! _ (ends-at 𝓤 H A call-refusal.ended stayed (call-refusal.clauses 𝓤 H A mem run) W (y, tt) (byte .val number) number (tt, (tt, (tt, tt))) (tt, (tt, (tt, tt)))) $ says ! (ap (found early) (fit-all (take m ys) (subst (λ (k : ℕ). AllBytes (take k ys)) same (t .1 .1 .1))) ∙ call-found ys driver own) $
       nothing ! $ move ! (1 ∷ 0 ∷ []) $ join ! $ frame ! $ fjoin ! $ frame ! $ owned ! (byte .row) (Is (byte .row)) (byte .makes 𝓤 H A W) number _ is-r $ done !))))))))))))))))))))
 
-pub call-refusal-spec : {M : Type 1} → stated.statement M
-unfolding code.routine tablesOf
+pub call-refusal-spec : {M : Type 1} → call-refusal.Statement.statement M
+unfolding call-refusal.Code.routine tablesOf
 call-refusal-spec 𝓤 H 𝓜 𝓖 𝓡 =
     let W = givenOf 𝓤 H 𝓜 𝓖 in
-    proves 𝓤 H 𝓜 𝓖 𝓡 code.env call-refusal.ended stayed (call-refusal.clauses 𝓤 H (𝓖 .A) (𝓜 .mem) (𝓡 .run)) (goes-none-slice 𝓤 H (𝓖 .A) W 1 (0 ∷ []) tt (plain (λ _. R)) yes, (goes-none 𝓤 H (𝓖 .A) W 1 (λ _. size .row) yes (λ κs x f. refl), (goes-none 𝓤 H (𝓖 .A) W 1 (λ _. byte .row) yes (λ κs x f. refl), tt)))
-    key.name code.function (code.unfolded 𝓤 H 𝓜 𝓡) (λ κs. (slice-vals, ((λ n. size .val n ∷ []), ((λ n. byte .val n ∷ []), tt)))) (λ κs. (shr-slice-tells (named 0) (κs .0) R, (size .tells, (byte .tells, tt))))
-    (λ κs qs bounds a g are. via 𝓤 _ (fst∗ 𝓤 _ (emp 𝓤)) (walk 𝓤 H (𝓖 .A) W (𝓜 .mem) (𝓡 .run) (κs .0) (qs .0) (a .0 .ptr .0) (a .0 .ptr .1) (a .0 .name) (a .0 .now) (a .1 .0) (a .1 .1 .0) (tablesOf 𝓤 H 𝓜 (tables 𝓤 H 𝓜 𝓡 code.env))
-    (cited 𝓤 H _ 𝓜 𝓡 code.env early-def.name early-def.routine code.calls-pass·by-arguments (early-thm.met 𝓤 H 𝓜 𝓖 𝓡)) (cited 𝓤 H _ 𝓜 𝓡 code.env look-def.name look-def.routine code.calls-pass·to-pass (look-thm.met 𝓤 H 𝓜 𝓖 𝓡))
-    (cited 𝓤 H _ 𝓜 𝓡 code.env none-def.name none-def.routine code.calls-pass·Widths·new (none-thm.met 𝓤 H 𝓜 𝓖 𝓡)) (cited 𝓤 H _ 𝓜 𝓡 code.env also-def.name also-def.routine code.calls-pass·Widths·with (also-thm.met 𝓤 H 𝓜 𝓖 𝓡))
-    (cited 𝓤 H _ 𝓜 𝓡 code.env last-def.name last-def.routine code.calls-pass·found (last-thm.met 𝓤 H 𝓜 𝓖 𝓡)) (are .0 .0 .1) (are .1 .0) (are .1 .1 .0)))
+    proves 𝓤 H 𝓜 𝓖 𝓡 call-refusal.Code.env call-refusal.ended stayed (call-refusal.clauses 𝓤 H (𝓖 .A) (𝓜 .mem) (𝓡 .run)) (goes-none-slice 𝓤 H (𝓖 .A) W 1 (0 ∷ []) tt (plain (λ _. R)) yes, (goes-none 𝓤 H (𝓖 .A) W 1 (λ _. size .row) yes (λ κs x f. refl), (goes-none 𝓤 H (𝓖 .A) W 1 (λ _. byte .row) yes (λ κs x f. refl), tt)))
+    call-refusal.Key.name call-refusal.Code.function (call-refusal.Code.unfolded 𝓤 H 𝓜 𝓡) (λ κs. (slice-vals, ((λ n. size .val n ∷ []), ((λ n. byte .val n ∷ []), tt)))) (λ κs. (shr-slice-tells (named 0) (κs .0) R, (size .tells, (byte .tells, tt))))
+    (λ κs qs bounds a g are. via 𝓤 _ (fst∗ 𝓤 _ (emp 𝓤)) (walk 𝓤 H (𝓖 .A) W (𝓜 .mem) (𝓡 .run) (κs .0) (qs .0) (a .0 .ptr .0) (a .0 .ptr .1) (a .0 .name) (a .0 .now) (a .1 .0) (a .1 .1 .0) (tablesOf 𝓤 H 𝓜 (tables 𝓤 H 𝓜 𝓡 call-refusal.Code.env))
+    (cited 𝓤 H _ 𝓜 𝓡 call-refusal.Code.env early′.Symbol.name early′.Symbol.routine call-refusal.Code.calls-pass·by-arguments (early′.Met.met 𝓤 H 𝓜 𝓖 𝓡)) (cited 𝓤 H _ 𝓜 𝓡 call-refusal.Code.env look′.Symbol.name look′.Symbol.routine call-refusal.Code.calls-pass·to-pass (look′.Met.met 𝓤 H 𝓜 𝓖 𝓡))
+    (cited 𝓤 H _ 𝓜 𝓡 call-refusal.Code.env none.Symbol.name none.Symbol.routine call-refusal.Code.calls-pass·Widths·new (none.Met.met 𝓤 H 𝓜 𝓖 𝓡)) (cited 𝓤 H _ 𝓜 𝓡 call-refusal.Code.env also.Symbol.name also.Symbol.routine call-refusal.Code.calls-pass·Widths·with (also.Met.met 𝓤 H 𝓜 𝓖 𝓡))
+    (cited 𝓤 H _ 𝓜 𝓡 call-refusal.Code.env last′.Symbol.name last′.Symbol.routine call-refusal.Code.calls-pass·found (last′.Met.met 𝓤 H 𝓜 𝓖 𝓡)) (are .0 .0 .1) (are .1 .0) (are .1 .1 .0)))

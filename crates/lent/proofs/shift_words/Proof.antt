@@ -1,21 +1,10 @@
 -- `lent::shift_words` meets its contract: a walk of its MIR, by hand. Both slices are opened once, before the loop. A turn copies one record out, stores its shift word and calls `with`.
 -- Assumes nothing.
-use native.Mathlib.Omega.{arith}
-use mathlib.Core.List.{_++_}
-use mathlib.Core.Option.{Option, none, some}
-use lib.Dec.{ltb}
-use mir.Syntax.{Local, Body, tyRef, mut, imm, seq, block, loop}
-use mir.Val.{Val, vbool}
-use types.Kit.{Item, Post, runs, Sq}
-use denote.Memory.{pointee}
-use denote.Slice.{sliceTy}
+use Rattle.ground.proofs.Names.{arith, _++_, Option, none, ltb, take}
+use mathlib.Core.Option.{some}
 use denote.Struct.Laws as LL
-use denote.Shadow.{pureL}
-use denote.Signature.{shrSliceOf}
-use denote.Triple.Walked.{stay-dropped, goes-dropped}
-use lib.ListN.{take}
 use Rattle.pass.proofs.Typed.{bytes-of}
-use Rattle.lent.proofs.Logic.{_≡_, refl, sym, ap, subst, ℕ, zero-le, _+_, _-_, _<_, _≤_, _^_, le-antisymm, List, [], _∷_, lit<, ltb→lt, nltb→le, length, getD, URA, fullShare, named, w64, tyPtr, tyBool, vint, SProp, emp, id⊢, via, fst∗, Lft, GName, Share, ftrue, fat, flft, Memory, Routine, Heap, Tables, Atoms, Fun, givenOf, tables, tablesOf, Given, ‵, _⊛_, _$_, _∵_, !, qed, move, keep, drop, split, join, rewrite, fsplit, fjoin, suffices, frame, done, look-in, look, init, store, store-raw, forget, stop, hop, from, load, lit, of-opd, bin, and-then, no-more, assigns, assigns-last, returns, enter, params1, pass1, pass0, fmOf, RattleType, owns, Is, shows, RefT, pureI, sliceVal, MutSlice, ShrSlice, Room, at-slice, slice-vals, mut-slice-tells, shr-slice-tells, row, opens-slice, closes-slice, looks-slice, shuts-slice, plain, nothing, owned, Bound, tripleOf, Triple, cited, says, Stays, stay-slice, goes-slice, ends-at, yes}
+use Rattle.lent.proofs.Logic.{_≡_, refl, sym, ap, subst, ℕ, zero-le, _+_, _-_, _<_, _≤_, _^_, le-antisymm, List, [], _∷_, lit<, ltb→lt, nltb→le, length, getD, URA, fullShare, named, w64, tyPtr, tyBool, vint, SProp, emp, id⊢, via, fst∗, Lft, GName, Share, ftrue, fat, flft, Memory, Routine, Heap, Tables, Atoms, Fun, givenOf, tables, tablesOf, Given, ‵, _⊛_, _$_, _∵_, !, qed, move, keep, drop, split, join, rewrite, fsplit, fjoin, suffices, frame, done, look-in, look, init, store, store-raw, forget, stop, hop, from, load, lit, of-opd, bin, and-then, no-more, assigns, assigns-last, returns, enter, params1, pass1, pass0, fmOf, RattleType, owns, Is, shows, RefT, pureI, sliceVal, MutSlice, ShrSlice, Room, at-slice, slice-vals, mut-slice-tells, shr-slice-tells, row, opens-slice, closes-slice, looks-slice, shuts-slice, plain, nothing, owned, Bound, tripleOf, Triple, cited, says, Stays, stay-slice, goes-slice, ends-at, yes, Local, Body, tyRef, mut, imm, seq, block, loop, Val, vbool, Item, Post, runs, Sq, pointee, sliceTy, pureL, shrSliceOf, stay-dropped, goes-dropped}
 use Rattle.device.specs.PowerUp.{powerUp}
 use Rattle.device.specs.declared.Device.{Device}
 use Rattle.device.proofs.Device as T
@@ -28,26 +17,15 @@ use Rattle.pass.proofs.WidthLaws.{widths-start, widths-more, all-start, all-mor
 use Rattle.pass.proofs.FoundLaws.{pass-in-below, pass-in-le}
 use Rattle.pass.proofs.StepLaws.{words-start, words-more, length-words}
 use Rattle.pass.proofs.to_pass_in as look′
-use Rattle.pass.proofs.to_pass_in.Symbol as look-def
-use Rattle.pass.proofs.to_pass_in.Met as look-thm
 use Rattle.pass.proofs.found as last′
-use Rattle.pass.proofs.found.Symbol as last-def
-use Rattle.pass.proofs.found.Met as last-thm
 use Rattle.pass.proofs.Widths.new as new
-use Rattle.pass.proofs.Widths.new.Symbol as none-def
-use Rattle.pass.proofs.Widths.new.Met as none-thm
 use Rattle.pass.proofs.Widths.with as also
-use Rattle.pass.proofs.Widths.with.Symbol as also-def
-use Rattle.pass.proofs.Widths.with.Met as also-thm
 use Rattle.lent.proofs.Records.{size, byte, half, half-sized, device, device-sized, widths, at-shift, local-shift}
 use Rattle.lent.proofs.Parts.{part, rest}
 use Rattle.lent.proofs.Locals.{span, values, envOf, held, starts, leaves, var, sets, lands-in, lands-over, start, count}
 use Rattle.lent.proofs.Elements.{points, takes-out, puts-in, copies}
 use Rattle.lent.proofs.Walk.{Walk, calls-value, tests, whiles, proves}
-use Rattle.lent.proofs.shift_words.Key as key
 use Rattle.lent.proofs.shift_words as shift-words
-use Rattle.lent.proofs.shift_words.Statement as stated
-use Rattle.lent.proofs.shift_words.Code as code
 
 abbrev R : RattleType
 R = device .row
@@ -80,10 +58,10 @@ at ys i = widthsOf noWidths (take i ys)
 
 -- the functions called, met
 record Known {M : Type 1} (𝓤 : URA M) (H : Heap 𝓤) (A : Atoms 𝓤) (mem : Memory → SProp 𝓤) (run : Routine → Fun 𝓤) (𝓣 : Tables 𝓤 H) : Type 1 where
-  look : Triple 𝓤 (𝓣 .C look-def.name) (tripleOf 𝓤 H A look′.signature (look′.spec 𝓤 H A mem run))
-  new : Triple 𝓤 (𝓣 .C none-def.name) (tripleOf 𝓤 H A new.signature (new.spec 𝓤 H A mem run))
-  also : Triple 𝓤 (𝓣 .C also-def.name) (tripleOf 𝓤 H A also.signature (also.spec 𝓤 H A mem run))
-  last : Triple 𝓤 (𝓣 .C last-def.name) (tripleOf 𝓤 H A last′.signature (last′.spec 𝓤 H A mem run))
+  look : Triple 𝓤 (𝓣 .C look′.Symbol.name) (tripleOf 𝓤 H A look′.signature (look′.spec 𝓤 H A mem run))
+  new : Triple 𝓤 (𝓣 .C new.Symbol.name) (tripleOf 𝓤 H A new.signature (new.spec 𝓤 H A mem run))
+  also : Triple 𝓤 (𝓣 .C also.Symbol.name) (tripleOf 𝓤 H A also.signature (also.spec 𝓤 H A mem run))
+  last : Triple 𝓤 (𝓣 .C last′.Symbol.name) (tripleOf 𝓤 H A last′.signature (last′.spec 𝓤 H A mem run))
 
 module _ {M : Type 1} (𝓤 : URA M) (H : Heap 𝓤) (A : Atoms 𝓤) (W : Given 𝓤 H A) (mem : Memory → SProp 𝓤) (run : Routine → Fun 𝓤) (𝓣 : Tables 𝓤 H) (b o : ℕ) (ys : List Device) (first b₁ o₁ : ℕ) (ws : List ℕ) (l : ℕ → ℕ) (q′ : Share) where
   -- the words where i are stored, the records, and the locals, vs from _10 on
@@ -96,7 +74,7 @@ module _ {M : Type 1} (𝓤 : URA M) (H : Heap 𝓤) (A : Atoms 𝓤) (W : Given
 
   looped : Known 𝓤 H A mem run 𝓣 → Room R (length ys) → Room S (length ws) → IsWidths (at ys 0) → (Θ : List (Item 𝓤)) {after : Body} {p : Post 𝓤 H}
       → (IsWidths (at ys (m first ys ws)) → AllBytes (take (m first ys ws) ys) → Sq W (At-turn (m first ys ws) (some (vbool (ltb (m first ys ws) (m first ys ws))) ∷ []) ++ Θ) (runs (𝓣 .C) (𝓣 .Λ) (envOf ls l) after p))
-      → Sq W (At-turn 0 [] ++ Θ) (runs (𝓣 .C) (𝓣 .Λ) (envOf ls l) (seq (block (loop (part (part (part (rest (rest (rest (rest (rest (code.function .body))))))))))) after) p)
+      → Sq W (At-turn 0 [] ++ Θ) (runs (𝓣 .C) (𝓣 .Λ) (envOf ls l) (seq (block (loop (part (part (part (rest (rest (rest (rest (rest (shift-words.Code.function .body))))))))))) after) p)
   looped known room room₁ is-none Θ {after} {p} ended =
       whiles ! 𝓣 (λ (t : At). m first ys ws - t .0) (λ t. At-turn (t .0) []) Θ (0, (zero-le, (is-none, all-start ys))) (λ t Q again out.
       -- [the words; the records; _0; _1; ..]
@@ -134,9 +112,9 @@ module _ {M : Type 1} (𝓤 : URA M) (H : Heap 𝓤) (A : Atoms 𝓤) (W : Given
   abbrev y : Bound 𝓤 H A shift-words.signature
   y = ((κ, (κ₁, tt)), (q, (q₁, tt)), tt, (x, (first, (ref ws, tt))), (slice-vals x, (byte .val first ∷ [], (slice-vals (ref ws), tt))))
 
-  walk : (𝓣 : Tables 𝓤 H) → Known 𝓤 H A mem run 𝓣 → Room R (length ys) → Is (byte .row) first (byte .val first ∷ []) → Room S (length ws) → Walk 𝓤 H A shift-words.ended stayed (shift-words.clauses 𝓤 H A mem run) 𝓣 code.function y tt
+  walk : (𝓣 : Tables 𝓤 H) → Known 𝓤 H A mem run 𝓣 → Room R (length ys) → Is (byte .row) first (byte .val first ∷ []) → Room S (length ws) → Walk 𝓤 H A shift-words.ended stayed (shift-words.clauses 𝓤 H A mem run) 𝓣 shift-words.Code.function y tt
   walk 𝓣 known room is-first room₁ =
-      qed W ((‵ (flft κ q) ⊛ ‵ (flft κ₁ q₁) ⊛ ‵ ftrue) ∷ ‵ (owns (ShrSlice (named 0) κ R ∷ byte .row ∷ MutSlice (named 1) κ₁ S ∷ []) (y .3) (y .4)) ∷ []) ∵ enter ! (𝓣 .C) (𝓣 .Λ) code.function _ _ $
+      qed W ((‵ (flft κ q) ⊛ ‵ (flft κ₁ q₁) ⊛ ‵ ftrue) ∷ ‵ (owns (ShrSlice (named 0) κ R ∷ byte .row ∷ MutSlice (named 1) κ₁ S ∷ []) (y .3) (y .4)) ∷ []) ∵ enter ! (𝓣 .C) (𝓣 .Λ) shift-words.Code.function _ _ $
       starts W ls ! (λ l D dies. params1 ! $ pass1 ! (init ! 1 refl (tt, (tt, (record { fits = room .0 }, tt)))) $ pass1 ! (init ! 2 refl (byte .typed 𝓤 H A W first is-first)) $ pass1 ! (init ! 3 refl (tt, (tt, (record { fits = room₁ .0 }, tt)))) $ pass0 ! $
       -- [_0; _1; ..; _14; that they die; the tokens; what the parameters own]
       sets ! (of-opd ! (count ! 1 refl refl)) 8 refl refl (tt, record { fits = room .0 }) $ sets ! (of-opd ! (count ! 3 refl refl)) 9 refl refl (tt, record { fits = room₁ .0 }) $
@@ -161,16 +139,16 @@ module _ {M : Type 1} (𝓤 : URA M) (H : Heap 𝓤) (A : Atoms 𝓤) (W : Given
       nothing ! $ move ! (4 ∷ 0 ∷ []) $ join ! $ move ! (1 ∷ 0 ∷ []) $ join ! $ frame ! $ fjoin ! $ pureI ! (at-slice S (ref (wordsTo ys ws (m first ys ws))) (slice-vals (ref ws))) (tt, (tt, tt)) (ap (λ (k : ℕ). sliceVal (b₁, o₁) k ∷ []) (sym long), subst (Room S) (sym long) room₁) $
       fjoin ! $ nothing ! $ move ! (1 ∷ 0 ∷ []) $ fjoin ! $ nothing ! $ fjoin ! $ nothing ! $ fjoin ! $ frame ! $ owned ! (byte .row) (Is (byte .row)) (byte .makes 𝓤 H A W) nr _ is-r $ done !))))))))
 
-pub shift-words-spec : {M : Type 1} → stated.statement M
-unfolding code.routine tablesOf
+pub shift-words-spec : {M : Type 1} → shift-words.Statement.statement M
+unfolding shift-words.Code.routine tablesOf
 shift-words-spec 𝓤 H 𝓜 𝓖 𝓡 =
     let W = givenOf 𝓤 H 𝓜 𝓖 in
-    proves 𝓤 H 𝓜 𝓖 𝓡 code.env shift-words.ended stayed (shift-words.clauses 𝓤 H (𝓖 .A) (𝓜 .mem) (𝓡 .run)) (goes-dropped 𝓤 H (𝓖 .A) W 2 (shrSliceOf (0 ∷ []) tt (plain (λ _. R))) yes (λ κs x f. refl), (goes-dropped 𝓤 H (𝓖 .A) W 2 (plain (λ _. byte .row)) yes (λ κs x f. refl), (goes-slice 𝓤 H (𝓖 .A) W 2 1 tt (plain (λ _. S)), tt)))
-    key.name code.function (code.unfolded 𝓤 H 𝓜 𝓡) (λ κs. (slice-vals, ((λ n. byte .val n ∷ []), (slice-vals, tt)))) (λ κs. (shr-slice-tells (named 0) (κs .0) R, (byte .tells, (mut-slice-tells (named 1) (κs .1 .0) S, tt))))
-    (λ κs qs bounds a g are. via 𝓤 _ (fst∗ 𝓤 _ (emp 𝓤)) (walk 𝓤 H (𝓖 .A) W (𝓜 .mem) (𝓡 .run) (κs .0) (κs .1 .0) (qs .0) (qs .1 .0) (a .0 .ptr .0) (a .0 .ptr .1) (a .0 .name) (a .0 .now) (a .1 .0) (a .1 .1 .0 .ptr .0) (a .1 .1 .0 .ptr .1) (a .1 .1 .0 .name) (a .1 .1 .0 .now) (tablesOf 𝓤 H 𝓜 (tables 𝓤 H 𝓜 𝓡 code.env))
+    proves 𝓤 H 𝓜 𝓖 𝓡 shift-words.Code.env shift-words.ended stayed (shift-words.clauses 𝓤 H (𝓖 .A) (𝓜 .mem) (𝓡 .run)) (goes-dropped 𝓤 H (𝓖 .A) W 2 (shrSliceOf (0 ∷ []) tt (plain (λ _. R))) yes (λ κs x f. refl), (goes-dropped 𝓤 H (𝓖 .A) W 2 (plain (λ _. byte .row)) yes (λ κs x f. refl), (goes-slice 𝓤 H (𝓖 .A) W 2 1 tt (plain (λ _. S)), tt)))
+    shift-words.Key.name shift-words.Code.function (shift-words.Code.unfolded 𝓤 H 𝓜 𝓡) (λ κs. (slice-vals, ((λ n. byte .val n ∷ []), (slice-vals, tt)))) (λ κs. (shr-slice-tells (named 0) (κs .0) R, (byte .tells, (mut-slice-tells (named 1) (κs .1 .0) S, tt))))
+    (λ κs qs bounds a g are. via 𝓤 _ (fst∗ 𝓤 _ (emp 𝓤)) (walk 𝓤 H (𝓖 .A) W (𝓜 .mem) (𝓡 .run) (κs .0) (κs .1 .0) (qs .0) (qs .1 .0) (a .0 .ptr .0) (a .0 .ptr .1) (a .0 .name) (a .0 .now) (a .1 .0) (a .1 .1 .0 .ptr .0) (a .1 .1 .0 .ptr .1) (a .1 .1 .0 .name) (a .1 .1 .0 .now) (tablesOf 𝓤 H 𝓜 (tables 𝓤 H 𝓜 𝓡 shift-words.Code.env))
     (record {
-      look = cited 𝓤 H _ 𝓜 𝓡 code.env look-def.name look-def.routine code.calls-pass·to-pass-in (look-thm.met 𝓤 H 𝓜 𝓖 𝓡);
-      new = cited 𝓤 H _ 𝓜 𝓡 code.env none-def.name none-def.routine code.calls-pass·Widths·new (none-thm.met 𝓤 H 𝓜 𝓖 𝓡);
-      also = cited 𝓤 H _ 𝓜 𝓡 code.env also-def.name also-def.routine code.calls-pass·Widths·with (also-thm.met 𝓤 H 𝓜 𝓖 𝓡);
-      last = cited 𝓤 H _ 𝓜 𝓡 code.env last-def.name last-def.routine code.calls-pass·found (last-thm.met 𝓤 H 𝓜 𝓖 𝓡);
+      look = cited 𝓤 H _ 𝓜 𝓡 shift-words.Code.env look′.Symbol.name look′.Symbol.routine shift-words.Code.calls-pass·to-pass-in (look′.Met.met 𝓤 H 𝓜 𝓖 𝓡);
+      new = cited 𝓤 H _ 𝓜 𝓡 shift-words.Code.env new.Symbol.name new.Symbol.routine shift-words.Code.calls-pass·Widths·new (new.Met.met 𝓤 H 𝓜 𝓖 𝓡);
+      also = cited 𝓤 H _ 𝓜 𝓡 shift-words.Code.env also.Symbol.name also.Symbol.routine shift-words.Code.calls-pass·Widths·with (also.Met.met 𝓤 H 𝓜 𝓖 𝓡);
+      last = cited 𝓤 H _ 𝓜 𝓡 shift-words.Code.env last′.Symbol.name last′.Symbol.routine shift-words.Code.calls-pass·found (last′.Met.met 𝓤 H 𝓜 𝓖 𝓡);
     }) (are .0 .0 .1) (are .1 .0) (are .1 .1 .0 .0 .1)))

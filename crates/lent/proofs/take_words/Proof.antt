@@ -1,43 +1,18 @@
 -- `lent::take_words` meets its contract: a walk of its MIR, by hand. Both slices are opened once, before the loop. A turn copies one word out. Where its address is 0x20 or above the record is opened once,
 -- two of its bytes are read and stored where they lie, and its shift word and answer mark are stored; else the record is copied out, `taken` is called and its result stored.
 -- Assumes nothing.
-use native.Mathlib.Omega.{arith}
-use lib.Dec.{T as Holds}
-use mathlib.Core.List.{_++_}
-use mathlib.Core.Option.{Option, none, some}
-use lib.Dec.{ltb}
-use mir.Syntax.{Local, Body, w16, tyUnit, tyRef, mut, imm, seq, block, loop}
-use prog.Wp.{next}
-use types.Kit.{Item, Post, post, prop, runs, Sq}
-use Prim.Native.Nat.{_/_, _%_}
-use mathlib.Core.Bool.{true}
-use types.Part.{store-in}
-use types.Run.{addr}
-use borrow.Author.Tests.{lt-ltb}
-use mir.Val.{Val, vunit, vbool}
-use types.Kit.{feqI}
-use types.Run.{unit-lit}
-use denote.Index.{place as lies}
-use denote.Memory.{pointee}
-use denote.Plain.{uint-copy}
-use denote.Shadow.{pureL}
-use denote.Signature.{shrSliceOf}
-use denote.Slice.{sliceTy}
-use denote.Triple.Walked.{stay-dropped, goes-dropped}
-use Rattle.lent.proofs.Logic.{_≡_, refl, sym, ap, _∙_, subst, ℕ, zero-le, _+_, _-_, _<_, _≤_, _^_, le-antisymm, List, [], _∷_, lit<, ltb→lt, nltb→le, length, getD, set, URA, fullShare, named, w64, tyPtr, tyBool, vint, SProp, emp, id⊢, via, fst∗, Lft, GName, Share, ftrue, flft, Memory, Routine, Heap, Tables, Atoms, Fun, givenOf, tables, tablesOf, Given, ‵, _⊛_, _$_, _∵_, !, qed, move, keep, split, join, rewrite, fsplit, fjoin, suffices, frame, done, look, init, store, store-raw, forget, stop, hop, from, load, lit, of-opd, bin, and-then, no-more, assigns, assigns-last, returns, enter, params1, pass1, pass0, fmOf, RattleType, owns, Is, shows, RefT, pureI, sliceVal, MutSlice, ShrSlice, Room, at-slice, slice-vals, mut-slice-tells, shr-slice-tells, row, opens-slice, closes-slice, looks-slice, shuts-slice, plain, nothing, Bound, tripleOf, Triple, cited, says, Stays, stay-slice, goes-slice, ends-at, yes}
+use Rattle.ground.proofs.Names.{arith, Holds, _++_, Option, none, ltb, _/_, _%_, true, lt-ltb}
+use mathlib.Core.Option.{some}
+use Rattle.lent.proofs.Logic.{_≡_, refl, sym, ap, _∙_, subst, ℕ, zero-le, _+_, _-_, _<_, _≤_, _^_, le-antisymm, List, [], _∷_, lit<, ltb→lt, nltb→le, length, getD, set, URA, fullShare, named, w64, tyPtr, tyBool, vint, SProp, emp, id⊢, via, fst∗, Lft, GName, Share, ftrue, flft, Memory, Routine, Heap, Tables, Atoms, Fun, givenOf, tables, tablesOf, Given, ‵, _⊛_, _$_, _∵_, !, qed, move, keep, split, join, rewrite, fsplit, fjoin, suffices, frame, done, look, init, store, store-raw, forget, stop, hop, from, load, lit, of-opd, bin, and-then, no-more, assigns, assigns-last, returns, enter, params1, pass1, pass0, fmOf, RattleType, owns, Is, shows, RefT, pureI, sliceVal, MutSlice, ShrSlice, Room, at-slice, slice-vals, mut-slice-tells, shr-slice-tells, row, opens-slice, closes-slice, looks-slice, shuts-slice, plain, nothing, Bound, tripleOf, Triple, cited, says, Stays, stay-slice, goes-slice, ends-at, yes, Local, Body, w16, tyUnit, tyRef, mut, imm, seq, block, loop, next, Item, Post, post, prop, runs, Sq, store-in, addr, Val, vunit, vbool, feqI, unit-lit, lies, pointee, uint-copy, pureL, shrSliceOf, sliceTy, stay-dropped, goes-dropped}
 use Rattle.device.specs.PowerUp.{powerUp}
 use Rattle.device.specs.Taken.{taken}
 use Rattle.device.specs.declared.Device.{Device}
 use Rattle.device.proofs.Device.taken as work
-use Rattle.device.proofs.Device.taken.Symbol as work-def
-use Rattle.device.proofs.Device.taken.Met as work-thm
 use Rattle.pass.specs.Found.{inRoom}
 use Rattle.pass.specs.OneByOne.{takenTo}
 use Rattle.pass.proofs.FoundLaws.{in-room-below, in-room-le}
 use Rattle.pass.proofs.StepLaws.{taken-start, taken-more, length-taken}
 use Rattle.pass.proofs.in_room as room′
-use Rattle.pass.proofs.in_room.Symbol as room-def
-use Rattle.pass.proofs.in_room.Met as room-thm
 use Rattle.lent.proofs.Records.{size, byte, half, half-sized, device, recordBytes, device-sized, planes-of, is-stored, Cell, at-p0, at-p1, at-shift, at-mark, in-p0, in-p1, in-shift, in-mark}
 use Rattle.lent.proofs.Parts.{part, rest}
 use Rattle.lent.proofs.Locals.{span, values, envOf, held, starts, leaves, var, sets, resets, lands-in, lands-over, start, count}
@@ -46,28 +21,13 @@ use Rattle.lent.proofs.Places.{bytes, long, at-most, look-byte, store-b
 use Rattle.high_words.specs.HighWords.{isHigh, digitOf, newP0, newP1, newShift, newMark, highTaken}
 use Rattle.high_words.proofs.HighLaws.{high-taken}
 use Rattle.high_words.proofs.is_high as high′
-use Rattle.high_words.proofs.is_high.Symbol as high-def
-use Rattle.high_words.proofs.is_high.Met as high-thm
 use Rattle.high_words.proofs.digit as at′
-use Rattle.high_words.proofs.digit.Symbol as at-def
-use Rattle.high_words.proofs.digit.Met as at-thm
 use Rattle.high_words.proofs.new_p0 as p0′
-use Rattle.high_words.proofs.new_p0.Symbol as p0-def
-use Rattle.high_words.proofs.new_p0.Met as p0-thm
 use Rattle.high_words.proofs.new_p1 as p1′
-use Rattle.high_words.proofs.new_p1.Symbol as p1-def
-use Rattle.high_words.proofs.new_p1.Met as p1-thm
 use Rattle.high_words.proofs.new_shift as shift′
-use Rattle.high_words.proofs.new_shift.Symbol as shift-def
-use Rattle.high_words.proofs.new_shift.Met as shift-thm
 use Rattle.high_words.proofs.new_mark as mark′
-use Rattle.high_words.proofs.new_mark.Symbol as mark-def
-use Rattle.high_words.proofs.new_mark.Met as mark-thm
 use Rattle.lent.proofs.Walk.{Walk, flag, calls-value, tests, whiles, proves}
-use Rattle.lent.proofs.take_words.Key as key
 use Rattle.lent.proofs.take_words as take-words
-use Rattle.lent.proofs.take_words.Statement as stated
-use Rattle.lent.proofs.take_words.Code as code
 
 abbrev R : RattleType
 R = device .row
@@ -84,7 +44,7 @@ ls = values (tyUnit ∷ sliceTy (tyRef (named 0) mut (pointee (R .written))) ∷
 
 -- a turn's code
 abbrev turn : Body
-turn = part (part (part (rest (rest (rest (rest (code.function .body)))))))
+turn = part (part (part (rest (rest (rest (rest (take-words.Code.function .body)))))))
 
 -- the turns
 abbrev m : List Device → List ℕ → ℕ
@@ -92,14 +52,14 @@ m ys ws = inRoom (length ys) (length ws)
 
 -- the functions called, met
 record Known {M : Type 1} (𝓤 : URA M) (H : Heap 𝓤) (A : Atoms 𝓤) (mem : Memory → SProp 𝓤) (run : Routine → Fun 𝓤) (𝓣 : Tables 𝓤 H) : Type 1 where
-  room : Triple 𝓤 (𝓣 .C room-def.name) (tripleOf 𝓤 H A room′.signature (room′.spec 𝓤 H A mem run))
-  high : Triple 𝓤 (𝓣 .C high-def.name) (tripleOf 𝓤 H A high′.signature (high′.spec 𝓤 H A mem run))
-  at : Triple 𝓤 (𝓣 .C at-def.name) (tripleOf 𝓤 H A at′.signature (at′.spec 𝓤 H A mem run))
-  p0 : Triple 𝓤 (𝓣 .C p0-def.name) (tripleOf 𝓤 H A p0′.signature (p0′.spec 𝓤 H A mem run))
-  p1 : Triple 𝓤 (𝓣 .C p1-def.name) (tripleOf 𝓤 H A p1′.signature (p1′.spec 𝓤 H A mem run))
-  shift : Triple 𝓤 (𝓣 .C shift-def.name) (tripleOf 𝓤 H A shift′.signature (shift′.spec 𝓤 H A mem run))
-  mark : Triple 𝓤 (𝓣 .C mark-def.name) (tripleOf 𝓤 H A mark′.signature (mark′.spec 𝓤 H A mem run))
-  work : Triple 𝓤 (𝓣 .C work-def.name) (tripleOf 𝓤 H A work.signature (work.spec 𝓤 H A mem run))
+  room : Triple 𝓤 (𝓣 .C room′.Symbol.name) (tripleOf 𝓤 H A room′.signature (room′.spec 𝓤 H A mem run))
+  high : Triple 𝓤 (𝓣 .C high′.Symbol.name) (tripleOf 𝓤 H A high′.signature (high′.spec 𝓤 H A mem run))
+  at : Triple 𝓤 (𝓣 .C at′.Symbol.name) (tripleOf 𝓤 H A at′.signature (at′.spec 𝓤 H A mem run))
+  p0 : Triple 𝓤 (𝓣 .C p0′.Symbol.name) (tripleOf 𝓤 H A p0′.signature (p0′.spec 𝓤 H A mem run))
+  p1 : Triple 𝓤 (𝓣 .C p1′.Symbol.name) (tripleOf 𝓤 H A p1′.signature (p1′.spec 𝓤 H A mem run))
+  shift : Triple 𝓤 (𝓣 .C shift′.Symbol.name) (tripleOf 𝓤 H A shift′.signature (shift′.spec 𝓤 H A mem run))
+  mark : Triple 𝓤 (𝓣 .C mark′.Symbol.name) (tripleOf 𝓤 H A mark′.signature (mark′.spec 𝓤 H A mem run))
+  work : Triple 𝓤 (𝓣 .C work.Symbol.name) (tripleOf 𝓤 H A work.signature (work.spec 𝓤 H A mem run))
 
 module _ {M : Type 1} (𝓤 : URA M) (H : Heap 𝓤) (A : Atoms 𝓤) (W : Given 𝓤 H A) (mem : Memory → SProp 𝓤) (run : Routine → Fun 𝓤) (𝓣 : Tables 𝓤 H) (b o : ℕ) (ys : List Device) (b₁ o₁ : ℕ) (ws : List ℕ) (l : ℕ → ℕ) (q′ : Share) where
   -- the words and the locals in turn i: w is in _5, and vs from _11 on
@@ -204,9 +164,9 @@ module _ {M : Type 1} (𝓤 : URA M) (H : Heap 𝓤) (A : Atoms 𝓤) (W : Given
   abbrev y : Bound 𝓤 H A take-words.signature
   y = ((κ, (κ₁, tt)), (q, (q₁, tt)), tt, (ref ys, (lent, tt)), (slice-vals (ref ys), (slice-vals lent, tt)))
 
-  walk : (𝓣 : Tables 𝓤 H) → Known 𝓤 H A mem run 𝓣 → Room R (length ys) → Room S (length ws) → Walk 𝓤 H A take-words.ended stayed (take-words.clauses 𝓤 H A mem run) 𝓣 code.function y tt
+  walk : (𝓣 : Tables 𝓤 H) → Known 𝓤 H A mem run 𝓣 → Room R (length ys) → Room S (length ws) → Walk 𝓤 H A take-words.ended stayed (take-words.clauses 𝓤 H A mem run) 𝓣 take-words.Code.function y tt
   walk 𝓣 known room room₁ =
-      qed W ((‵ (flft κ q) ⊛ ‵ (flft κ₁ q₁) ⊛ ‵ ftrue) ∷ ‵ (owns (MutSlice (named 0) κ R ∷ ShrSlice (named 1) κ₁ S ∷ []) (y .3) (y .4)) ∷ []) ∵ enter ! (𝓣 .C) (𝓣 .Λ) code.function _ _ $
+      qed W ((‵ (flft κ q) ⊛ ‵ (flft κ₁ q₁) ⊛ ‵ ftrue) ∷ ‵ (owns (MutSlice (named 0) κ R ∷ ShrSlice (named 1) κ₁ S ∷ []) (y .3) (y .4)) ∷ []) ∵ enter ! (𝓣 .C) (𝓣 .Λ) take-words.Code.function _ _ $
       starts W ls ! (λ l D dies. params1 ! $ pass1 ! (init ! 1 refl (tt, (tt, (record { fits = room .0 }, tt)))) $ pass1 ! (init ! 2 refl (tt, (tt, (record { fits = room₁ .0 }, tt)))) $ pass0 ! $
       -- [_0; _1; ..; _38; that they die; the tokens; what the parameters own]
       sets ! (of-opd ! (count ! 1 refl refl)) 9 refl refl (tt, record { fits = room .0 }) $
@@ -230,20 +190,20 @@ module _ {M : Type 1} (𝓤 : URA M) (H : Heap 𝓤) (A : Atoms 𝓤) (W : Given
       nothing ! $ move ! (1 ∷ 0 ∷ []) $ join ! $ move ! (3 ∷ 0 ∷ []) $ join ! $ frame ! $ fjoin ! $ pureI ! (at-slice R (ref (takenTo ys ws (m ys ws))) (slice-vals (ref ys))) (tt, (tt, tt)) (ap (λ (k : ℕ). sliceVal (b, o) k ∷ []) (sym long′), subst (Room R) (sym long′) room) $
       fjoin ! $ nothing ! $ nothing ! $ fjoin ! $ move ! (1 ∷ 0 ∷ []) $ fjoin ! $ frame ! $ feqI ! (List Val) (vunit ∷ []) (vunit ∷ []) refl $ done !))))))
 
-pub take-words-spec : {M : Type 1} → stated.statement M
-unfolding code.routine tablesOf
+pub take-words-spec : {M : Type 1} → take-words.Statement.statement M
+unfolding take-words.Code.routine tablesOf
 take-words-spec 𝓤 H 𝓜 𝓖 𝓡 =
     let W = givenOf 𝓤 H 𝓜 𝓖 in
-    proves 𝓤 H 𝓜 𝓖 𝓡 code.env take-words.ended stayed (take-words.clauses 𝓤 H (𝓖 .A) (𝓜 .mem) (𝓡 .run)) (goes-slice 𝓤 H (𝓖 .A) W 2 0 tt (plain (λ _. R)), (goes-dropped 𝓤 H (𝓖 .A) W 2 (shrSliceOf (1 ∷ []) tt (plain (λ _. S))) yes (λ κs x f. refl), tt))
-    key.name code.function (code.unfolded 𝓤 H 𝓜 𝓡) (λ κs. (slice-vals, (slice-vals, tt))) (λ κs. (mut-slice-tells (named 0) (κs .0) R, (shr-slice-tells (named 1) (κs .1 .0) S, tt)))
-    (λ κs qs bounds a g are. via 𝓤 _ (fst∗ 𝓤 _ (emp 𝓤)) (walk 𝓤 H (𝓖 .A) W (𝓜 .mem) (𝓡 .run) (κs .0) (κs .1 .0) (qs .0) (qs .1 .0) (a .0 .ptr .0) (a .0 .ptr .1) (a .0 .name) (a .0 .now) (a .1 .0 .ptr .0) (a .1 .0 .ptr .1) (a .1 .0 .name) (a .1 .0 .now) (tablesOf 𝓤 H 𝓜 (tables 𝓤 H 𝓜 𝓡 code.env))
+    proves 𝓤 H 𝓜 𝓖 𝓡 take-words.Code.env take-words.ended stayed (take-words.clauses 𝓤 H (𝓖 .A) (𝓜 .mem) (𝓡 .run)) (goes-slice 𝓤 H (𝓖 .A) W 2 0 tt (plain (λ _. R)), (goes-dropped 𝓤 H (𝓖 .A) W 2 (shrSliceOf (1 ∷ []) tt (plain (λ _. S))) yes (λ κs x f. refl), tt))
+    take-words.Key.name take-words.Code.function (take-words.Code.unfolded 𝓤 H 𝓜 𝓡) (λ κs. (slice-vals, (slice-vals, tt))) (λ κs. (mut-slice-tells (named 0) (κs .0) R, (shr-slice-tells (named 1) (κs .1 .0) S, tt)))
+    (λ κs qs bounds a g are. via 𝓤 _ (fst∗ 𝓤 _ (emp 𝓤)) (walk 𝓤 H (𝓖 .A) W (𝓜 .mem) (𝓡 .run) (κs .0) (κs .1 .0) (qs .0) (qs .1 .0) (a .0 .ptr .0) (a .0 .ptr .1) (a .0 .name) (a .0 .now) (a .1 .0 .ptr .0) (a .1 .0 .ptr .1) (a .1 .0 .name) (a .1 .0 .now) (tablesOf 𝓤 H 𝓜 (tables 𝓤 H 𝓜 𝓡 take-words.Code.env))
     (record {
-      room = cited 𝓤 H _ 𝓜 𝓡 code.env room-def.name room-def.routine code.calls-pass·in-room (room-thm.met 𝓤 H 𝓜 𝓖 𝓡);
-      high = cited 𝓤 H _ 𝓜 𝓡 code.env high-def.name high-def.routine code.calls-high-words·is-high (high-thm.met 𝓤 H 𝓜 𝓖 𝓡);
-      at = cited 𝓤 H _ 𝓜 𝓡 code.env at-def.name at-def.routine code.calls-high-words·digit (at-thm.met 𝓤 H 𝓜 𝓖 𝓡);
-      p0 = cited 𝓤 H _ 𝓜 𝓡 code.env p0-def.name p0-def.routine code.calls-high-words·new-p0 (p0-thm.met 𝓤 H 𝓜 𝓖 𝓡);
-      p1 = cited 𝓤 H _ 𝓜 𝓡 code.env p1-def.name p1-def.routine code.calls-high-words·new-p1 (p1-thm.met 𝓤 H 𝓜 𝓖 𝓡);
-      shift = cited 𝓤 H _ 𝓜 𝓡 code.env shift-def.name shift-def.routine code.calls-high-words·new-shift (shift-thm.met 𝓤 H 𝓜 𝓖 𝓡);
-      mark = cited 𝓤 H _ 𝓜 𝓡 code.env mark-def.name mark-def.routine code.calls-high-words·new-mark (mark-thm.met 𝓤 H 𝓜 𝓖 𝓡);
-      work = cited 𝓤 H _ 𝓜 𝓡 code.env work-def.name work-def.routine code.calls-device·Device·taken (work-thm.met 𝓤 H 𝓜 𝓖 𝓡);
+      room = cited 𝓤 H _ 𝓜 𝓡 take-words.Code.env room′.Symbol.name room′.Symbol.routine take-words.Code.calls-pass·in-room (room′.Met.met 𝓤 H 𝓜 𝓖 𝓡);
+      high = cited 𝓤 H _ 𝓜 𝓡 take-words.Code.env high′.Symbol.name high′.Symbol.routine take-words.Code.calls-high-words·is-high (high′.Met.met 𝓤 H 𝓜 𝓖 𝓡);
+      at = cited 𝓤 H _ 𝓜 𝓡 take-words.Code.env at′.Symbol.name at′.Symbol.routine take-words.Code.calls-high-words·digit (at′.Met.met 𝓤 H 𝓜 𝓖 𝓡);
+      p0 = cited 𝓤 H _ 𝓜 𝓡 take-words.Code.env p0′.Symbol.name p0′.Symbol.routine take-words.Code.calls-high-words·new-p0 (p0′.Met.met 𝓤 H 𝓜 𝓖 𝓡);
+      p1 = cited 𝓤 H _ 𝓜 𝓡 take-words.Code.env p1′.Symbol.name p1′.Symbol.routine take-words.Code.calls-high-words·new-p1 (p1′.Met.met 𝓤 H 𝓜 𝓖 𝓡);
+      shift = cited 𝓤 H _ 𝓜 𝓡 take-words.Code.env shift′.Symbol.name shift′.Symbol.routine take-words.Code.calls-high-words·new-shift (shift′.Met.met 𝓤 H 𝓜 𝓖 𝓡);
+      mark = cited 𝓤 H _ 𝓜 𝓡 take-words.Code.env mark′.Symbol.name mark′.Symbol.routine take-words.Code.calls-high-words·new-mark (mark′.Met.met 𝓤 H 𝓜 𝓖 𝓡);
+      work = cited 𝓤 H _ 𝓜 𝓡 take-words.Code.env work.Symbol.name work.Symbol.routine take-words.Code.calls-device·Device·taken (work.Met.met 𝓤 H 𝓜 𝓖 𝓡);
     }) (are .0 .0 .1) (are .1 .0 .0 .1)))

@@ -1,6 +1,5 @@
 -- `look_back::held` meets its contract. Assumes nothing.
-use borrow.Author.Needs.{needs}
-use Rattle.ground.proofs.Tests.{tests}
+use Rattle.ground.proofs.Names.{needs, tests}
 use Rattle.look_back.proofs.held.Statement.{statement}
 use Rattle.look_back.proofs.held.Tie as tie
 

@@ -1,6 +1,5 @@
 -- `look_back::left_by` meets its contract. Assumes nothing.
-use borrow.Author.Needs.{needs}
-use Rattle.ground.proofs.Tests.{tests}
+use Rattle.ground.proofs.Names.{needs, tests}
 use Rattle.look_back.proofs.left_by.Statement.{statement}
 use Rattle.look_back.proofs.left_by.Tie as tie
 

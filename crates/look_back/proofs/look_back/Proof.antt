@@ -1,7 +1,5 @@
 -- `look_back::look_back` meets its contract. Assumes nothing.
-use lib.Dec.{ltb}
-use borrow.Author.Tests.{ltb-true}
-use Rattle.ground.proofs.Truth.{and-right}
+use Rattle.ground.proofs.Names.{ltb, ltb-true, and-right}
 use Rattle.look_back.proofs.look_back.Statement.{statement}
 use Rattle.look_back.proofs.look_back.Tie as tie
 

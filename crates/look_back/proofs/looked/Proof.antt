@@ -1,9 +1,5 @@
 -- `look_back::looked` meets its contract: the place that the masks find is the stopping place, and it decides the byte. Assumes nothing.
-use Prim.Native.Nat.{_≤_}
-use native.Mathlib.Omega.{arith}
-use mathlib.Core.Path.{_≡_, sym, _∙_}
-use lib.ListN.{length}
-use borrow.Author.Needs.{needs}
+use Rattle.ground.proofs.Names.{_≤_, arith, _≡_, sym, _∙_, length, needs}
 use Rattle.look_back.specs.LookBack.{planeNumbered}
 use Rattle.look_back.specs.Masks.{stopsUnder}
 use Rattle.look_back.proofs.PlaceLaws.{place-le}
@@ -53,14 +49,5 @@ returns-2 c =
 pub looked-spec : {M : Type 1} → statement M
 looked-spec =
     tie.close
-    (tie.spec
-    (λ c κs. search needs)
-    (λ c κs. search needs)
-    (λ c κs. search needs)
-    (λ c. search needs)
-    mul-left-by
-    shared-slice-read-left-by
-    (λ c κs. search needs)
-    (λ c κs. search needs)
-    returns
-    returns-2)
+    (tie.spec (λ c κs. search needs) (λ c κs. search needs) (λ c κs. search needs) (λ c. search needs) mul-left-by shared-slice-read-left-by
+    (λ c κs. search needs) (λ c κs. search needs) returns returns-2)

@@ -1,5 +1,5 @@
 -- `look_back::mask` meets its contract. Assumes nothing.
-use Rattle.ground.proofs.Tests.{tests}
+use Rattle.ground.proofs.Names.{tests}
 use Rattle.look_back.proofs.mask.Statement.{statement}
 use Rattle.look_back.proofs.mask.Tie as tie
 

@@ -1,16 +1,8 @@
 -- `look_back::pattern` meets its contract. Assumes nothing.
-use borrow.Author.Needs.{needs}
-use Rattle.ground.proofs.Tests.{tests}
+use Rattle.ground.proofs.Names.{needs, tests}
 use Rattle.look_back.proofs.pattern.Statement.{statement}
 use Rattle.look_back.proofs.pattern.Tie as tie
 
 pub pattern-spec : {M : Type 1} → statement M
 pattern-spec =
-    tie.close
-    (tie.spec
-    (λ c. search needs)
-    (λ c. search needs)
-    (λ c. search needs)
-    (λ c. search needs)
-    (λ c. search tests)
-    (λ c. search tests))
+    tie.close (tie.spec (λ c. search needs) (λ c. search needs) (λ c. search needs) (λ c. search needs) (λ c. search tests) (λ c. search tests))

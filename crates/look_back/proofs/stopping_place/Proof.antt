@@ -1,11 +1,6 @@
 -- `look_back::stopping_place` meets its contract. The invariant: no word after the first k stops, so the place is that of these. A turn reads the
 -- last of them, and the one before it where the last doesn't stop: none before the stopping place. Assumes nothing.
-use Prim.Native.Nat.{_-_, _≤_}
-use native.Mathlib.Omega.{arith}
-use mathlib.Core.Path.{_≡_, sym, ap, _∙_}
-use lib.ListN.{length, take}
-use lib.Seq.{take-length}
-use borrow.Author.Needs.{needs}
+use Rattle.ground.proofs.Names.{_-_, _≤_, arith, _≡_, sym, ap, _∙_, length, take, take-length, needs}
 use Rattle.look_back.specs.Stops.{lastPlace}
 use Rattle.look_back.specs.Masks.{stopsUnder}
 use Rattle.look_back.proofs.PlaceLaws.{stops-at, goes-on, no-words}
@@ -77,26 +72,6 @@ returns-5 c =
 pub stopping-place-spec : {M : Type 1} → statement M
 stopping-place-spec =
     tie.close
-    (tie.spec
-    Inv-loop
-    μ-loop
-    loop-holds
-    (λ c. omega arith)
-    (λ c. omega arith)
-    (λ c. omega arith)
-    (λ c κs. search needs)
-    returns
-    (λ c. omega arith)
-    (λ c. omega arith)
-    (λ c. omega arith)
-    (λ c κs. search needs)
-    (λ c. omega arith)
-    returns-2
-    (λ c. omega arith)
-    (λ c. omega arith)
-    loop-again
-    (λ c. omega arith)
-    (λ c κs. search needs)
-    returns-3
-    returns-4
-    returns-5)
+    (tie.spec Inv-loop μ-loop loop-holds (λ c. omega arith) (λ c. omega arith) (λ c. omega arith) (λ c κs. search needs) returns (λ c. omega arith)
+    (λ c. omega arith) (λ c. omega arith) (λ c κs. search needs) (λ c. omega arith) returns-2 (λ c. omega arith) (λ c. omega arith) loop-again
+    (λ c. omega arith) (λ c κs. search needs) returns-3 returns-4 returns-5)

@@ -1,5 +1,5 @@
 -- `pass::access_by_arguments` meets its contract. Assumes nothing.
-use borrow.Author.Needs.{needs}
+use Rattle.ground.proofs.Names.{needs}
 use Rattle.refusals.proofs.RefusalLaws.{first-last}
 use Rattle.pass.proofs.access_by_arguments.Statement.{statement}
 use Rattle.pass.proofs.access_by_arguments.Tie as tie

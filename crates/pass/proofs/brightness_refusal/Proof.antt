@@ -1,5 +1,5 @@
 -- `pass::brightness_refusal` meets its contract. Assumes nothing.
-use Rattle.ground.proofs.Tests.{tests}
+use Rattle.ground.proofs.Names.{tests}
 use Rattle.pass.proofs.brightness_refusal.Statement.{statement}
 use Rattle.pass.proofs.brightness_refusal.Tie as tie
 

@@ -1,5 +1,5 @@
 -- `pass::by_arguments` meets its contract. Assumes nothing.
-use borrow.Author.Needs.{needs}
+use Rattle.ground.proofs.Names.{needs}
 use Rattle.refusals.proofs.RefusalLaws.{first-last}
 use Rattle.pass.proofs.by_arguments.Statement.{statement}
 use Rattle.pass.proofs.by_arguments.Tie as tie
@@ -9,10 +9,4 @@ returns c = simp (first-last, c .before .before .before .driver-refusal .ensures
 
 pub by-arguments-spec : {M : Type 1} → statement M
 by-arguments-spec =
-    tie.close
-    (tie.spec
-    (λ c κs. search needs)
-    (λ c κs. search needs)
-    (λ c κs. search needs)
-    (λ c κs. search needs)
-    returns)
+    tie.close (tie.spec (λ c κs. search needs) (λ c κs. search needs) (λ c κs. search needs) (λ c κs. search needs) returns)

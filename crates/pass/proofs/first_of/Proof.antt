@@ -1,5 +1,5 @@
 -- `pass::first_of` meets its contract. Assumes nothing.
-use Rattle.ground.proofs.Tests.{tests}
+use Rattle.ground.proofs.Names.{tests}
 use Rattle.pass.proofs.first_of.Statement.{statement}
 use Rattle.pass.proofs.first_of.Tie as tie
 

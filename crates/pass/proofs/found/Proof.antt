@@ -1,6 +1,5 @@
 -- `pass::found` meets its contract. Assumes nothing.
-use Rattle.ground.proofs.Tests.{tests}
-use borrow.Author.Needs.{needs}
+use Rattle.ground.proofs.Names.{tests, needs}
 use Rattle.pass.proofs.found.Statement.{statement}
 use Rattle.pass.proofs.found.Tie as tie
 

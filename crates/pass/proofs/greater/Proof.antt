@@ -1,5 +1,5 @@
 -- `pass::greater` meets its contract. Assumes nothing.
-use Rattle.ground.proofs.Tests.{tests}
+use Rattle.ground.proofs.Names.{tests}
 use Rattle.pass.proofs.greater.Statement.{statement}
 use Rattle.pass.proofs.greater.Tie as tie
 

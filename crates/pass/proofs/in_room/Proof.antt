@@ -1,5 +1,5 @@
 -- `pass::in_room` meets its contract. Assumes nothing.
-use Rattle.ground.proofs.Tests.{tests}
+use Rattle.ground.proofs.Names.{tests}
 use Rattle.pass.proofs.in_room.Statement.{statement}
 use Rattle.pass.proofs.in_room.Tie as tie
 

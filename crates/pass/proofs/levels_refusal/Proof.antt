@@ -1,5 +1,5 @@
 -- `pass::levels_refusal` meets its contract. Assumes nothing.
-use Rattle.ground.proofs.Tests.{tests}
+use Rattle.ground.proofs.Names.{tests}
 use Rattle.pass.proofs.levels_refusal.Statement.{statement}
 use Rattle.pass.proofs.levels_refusal.Tie as tie
 

@@ -1,5 +1,5 @@
 -- `pass::to_pass` meets its contract. Assumes nothing.
-use Rattle.ground.proofs.Tests.{tests}
+use Rattle.ground.proofs.Names.{tests}
 use Rattle.pass.proofs.to_pass.Statement.{statement}
 use Rattle.pass.proofs.to_pass.Tie as tie
 

@@ -1,12 +1,5 @@
 -- `planner::accepts` meets its contract. Assumes nothing.
-use Prim.Native.Nat.{ℕ, _/_}
-use native.Mathlib.Omega.{arith}
-use mathlib.Core.Bool.{Bool, true, false, _&&_, and-assoc}
-use mathlib.Core.Path.{_≡_}
-use lib.Dec.{ltb}
-use lib.ListN.{length}
-use borrow.Author.Tests.{ltb-true}
-use Rattle.ground.proofs.Truth.{and-left, and-right}
+use Rattle.ground.proofs.Names.{ℕ, _/_, arith, Bool, true, false, _&&_, and-assoc, _≡_, ltb, length, ltb-true, and-left, and-right}
 use Rattle.planner.proofs.CheckLaws.{words-planes}
 use Rattle.planner.proofs.accepts.Statement.{statement}
 use Rattle.planner.proofs.accepts.Tie as tie

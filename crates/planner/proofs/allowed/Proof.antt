@@ -1,5 +1,5 @@
 -- `planner::allowed` meets its contract. Assumes nothing.
-use borrow.Author.Needs.{needs}
+use Rattle.ground.proofs.Names.{needs}
 use Rattle.planner.proofs.allowed.Statement.{statement}
 use Rattle.planner.proofs.allowed.Tie as tie
 

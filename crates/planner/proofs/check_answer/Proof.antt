@@ -1,15 +1,10 @@
 -- `planner::check_answer` meets its contract. Assumes nothing.
-use lib.Dec.{eqb}
-use borrow.Author.Tests.{ltb-true}
-use Rattle.ground.proofs.Truth.{and-right}
+use Rattle.ground.proofs.Names.{eqb, ltb-true, and-right}
 use Rattle.planner.proofs.check_answer.Statement.{statement}
 use Rattle.planner.proofs.check_answer.Tie as tie
 
 pub check-answer-spec : {M : Type 1} → statement M
 check-answer-spec =
     tie.close
-    (tie.spec
-    (λ c. ltb-true _ _ (and-right (eqb (c .before .args .number) 0) _ (c .if1 .taken)))
-    (λ c. rw (c .before .if1 .taken, c .if2 .taken))
-    (λ c. rw (c .before .if1 .taken, c .if2 .left))
-    (λ c. rw (c .if1 .left)))
+    (tie.spec (λ c. ltb-true _ _ (and-right (eqb (c .before .args .number) 0) _ (c .if1 .taken))) (λ c. rw (c .before .if1 .taken, c .if2 .taken))
+    (λ c. rw (c .before .if1 .taken, c .if2 .left)) (λ c. rw (c .if1 .left)))

@@ -1,8 +1,5 @@
 -- `planner::in_room` meets its contract. Assumes nothing.
-use Prim.Native.Nat.{_*_}
-use native.Mathlib.Nat.{le-refl, mul-le-mul}
-use native.Mathlib.Omega.{arith}
-use borrow.Author.Tests.{le-leb}
+use Rattle.ground.proofs.Names.{_*_, le-refl, mul-le-mul, arith, le-leb}
 use Rattle.planner.proofs.Room.{in-room}
 use Rattle.planner.proofs.in_room.Statement.{statement}
 use Rattle.planner.proofs.in_room.Tie as tie

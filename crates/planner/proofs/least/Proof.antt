@@ -1,6 +1,5 @@
 -- `planner::least` meets its contract. Assumes nothing.
-use native.Mathlib.Omega.{arith}
-use borrow.Author.Needs.{needs}
+use Rattle.ground.proofs.Names.{arith, needs}
 use Rattle.digits.specs.Digits.{cleared}
 use Rattle.plans.specs.Lists.{wantedAt}
 use Rattle.plans.proofs.Potential.{needs-le}
@@ -20,11 +19,4 @@ returns-2 c = omega (arith, rw (c .before .before .cleared-if .ensures) at (c .b
 
 pub least-spec : {M : Type 1} → statement M
 least-spec =
-    tie.close
-    (tie.spec
-    (λ c κs. search needs)
-    (λ c κs. search needs)
-    (λ c κs. search needs)
-    add-anew
-    returns
-    returns-2)
+    tie.close (tie.spec (λ c κs. search needs) (λ c κs. search needs) (λ c κs. search needs) add-anew returns returns-2)

@@ -1,9 +1,5 @@
 -- `planner::list_refusal` meets its contract. Assumes nothing.
-use Prim.Native.Nat.{_*_, _<_}
-use native.Mathlib.Nat.{div-lt-iff-lt-mul, div-add-mod', mul-le-mul-right, mul-zero}
-use native.Mathlib.Omega.{arith}
-use borrow.Author.Tests.{lt-ltb, le-ltb}
-use Rattle.ground.proofs.Tests.{tests}
+use Rattle.ground.proofs.Names.{_*_, _<_, div-lt-iff-lt-mul, div-add-mod', mul-le-mul-right, mul-zero, arith, lt-ltb, le-ltb, tests}
 use Rattle.planner.proofs.list_refusal.Statement.{statement}
 use Rattle.planner.proofs.list_refusal.Tie as tie
 

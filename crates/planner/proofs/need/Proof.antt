@@ -1,10 +1,5 @@
 -- `planner::need` meets its contract. Assumes nothing.
-use Prim.Native.Nat.{_≤_}
-use native.Mathlib.Omega.{arith}
-use mathlib.Core.Bool.{Bool, true, false}
-use lib.Dec.{eqb}
-use borrow.Author.Needs.{needs}
-use borrow.Author.Tests.{ne-eqb, eq-eqb}
+use Rattle.ground.proofs.Names.{_≤_, arith, Bool, true, false, eqb, needs, ne-eqb, eq-eqb}
 use Rattle.plans.specs.Least.{wrong}
 use Rattle.planner.proofs.need.Statement.{statement}
 use Rattle.planner.proofs.need.Tie as tie
@@ -16,9 +11,7 @@ wrong-le false = omega arith
 pub need-spec : {M : Type 1} → statement M
 need-spec =
     tie.close
-    (tie.spec
-    (λ c κs. search needs)
-    (λ c κs. search needs)
+    (tie.spec (λ c κs. search needs) (λ c κs. search needs)
     (λ c. let s = c .before .before .before .args in omega (arith, wrong-le (eqb (s .a) (s .x)), wrong-le (eqb (s .b) (s .y)), c .before .before .wrong .ensures, c .before .wrong2 .ensures))
     (λ c. rw (ne-eqb _ _ (c .if1 .taken)) (omega (arith, c .before .before .wrong .ensures, c .before .wrong2 .ensures)))
     (λ c. rw (eq-eqb _ _ (c .before .if1 .left)) (omega (arith, c .before .before .before .wrong .ensures, c .before .before .wrong2 .ensures)))

@@ -1,12 +1,5 @@
 -- `planner::own_accepted` meets its contract. The invariant: after a words, the rest decides by the planes so far. Assumes nothing.
-use Prim.Native.Nat.{ℕ, _+_, _*_, _-_, _≤_, _<_}
-use native.Mathlib.Numerals.{add-one}
-use native.Mathlib.Nat.{suc-mul, div-le-self}
-use native.Mathlib.Omega.{arith}
-use mathlib.Core.Path.{_≡_, refl, sym, _∙_}
-use lib.ListN.{length, drop}
-use borrow.Author.Needs.{needs}
-use borrow.Author.Tests.{not-true, not-false}
+use Rattle.ground.proofs.Names.{ℕ, _+_, _*_, _-_, _≤_, _<_, add-one, suc-mul, div-le-self, arith, _≡_, refl, sym, _∙_, length, drop, needs, not-true, not-false}
 use Rattle.plans.specs.Lists.{wantedAt, wordsAt}
 use Rattle.planner.specs.OneDriver.{fromPlanes}
 use Rattle.planner.proofs.CheckLaws.{same-plain, word-taken, word-refused, words-done, place-in}
@@ -55,19 +48,7 @@ returns-2 c =
 pub own-accepted-spec : {M : Type 1} → statement M
 own-accepted-spec =
     tie.close
-    (tie.spec
-    Inv-loop
-    μ-loop
-    (λ c. search needs)
-    loop-holds
-    (λ c. let l = c .before .loop in omega (arith, l .inv .2 (l .a) (omega arith)))
-    (λ c. let l = c .before .before .loop in omega (arith, l .inv .2 (l .a) (omega arith)))
-    (λ c κs. search needs)
-    returns
-    (λ c κs. search needs)
-    (λ c. let l = c .before .before .before .before .before .loop in omega (arith, l .inv .2 (l .a) (omega arith)))
-    (λ c. search needs)
-    (λ c. search needs)
-    loop-again
-    (λ c κs. search needs)
-    returns-2)
+    (tie.spec Inv-loop μ-loop (λ c. search needs) loop-holds (λ c. let l = c .before .loop in omega (arith, l .inv .2 (l .a) (omega arith)))
+    (λ c. let l = c .before .before .loop in omega (arith, l .inv .2 (l .a) (omega arith))) (λ c κs. search needs) returns (λ c κs. search needs)
+    (λ c. let l = c .before .before .before .before .before .loop in omega (arith, l .inv .2 (l .a) (omega arith))) (λ c. search needs) (λ c. search needs)
+    loop-again (λ c κs. search needs) returns-2)

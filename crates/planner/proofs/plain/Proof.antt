@@ -1,9 +1,5 @@
 -- `planner::plain` meets its contract. The invariant: the words of the digits below k. Assumes nothing.
-use Prim.Native.Nat.{_≤_, _-_}
-use native.Mathlib.Numerals.{add-one}
-use native.Mathlib.Omega.{arith}
-use mathlib.Core.Path.{_≡_, refl, _∙_}
-use borrow.Author.Needs.{needs}
+use Rattle.ground.proofs.Names.{_≤_, _-_, add-one, arith, _≡_, refl, _∙_, needs}
 use Rattle.plans.specs.Least.{total, needAt}
 use Rattle.plans.specs.Lists.{wantedAt}
 use Rattle.plans.proofs.Potential.{need-le, needs-le}
@@ -42,22 +38,7 @@ returns c = let e : c .before .loop .k ≡ 16 = omega arith in c .before .loop .
 pub plain-spec : {M : Type 1} → statement M
 plain-spec =
     tie.close
-    (tie.spec
-    Inv-loop
-    μ-loop
-    (λ c. search needs)
-    loop-holds
-    (λ c. search needs)
-    (λ c. search needs)
-    (λ c. search needs)
-    (λ c. search needs)
-    (λ c. search needs)
-    (λ c. search needs)
-    (λ c. search needs)
-    (λ c κs. search needs)
-    add-sum
-    (λ c. search needs)
-    (λ c. search needs)
-    loop-again
+    (tie.spec Inv-loop μ-loop (λ c. search needs) loop-holds (λ c. search needs) (λ c. search needs) (λ c. search needs) (λ c. search needs) (λ c. search needs)
+    (λ c. search needs) (λ c. search needs) (λ c κs. search needs) add-sum (λ c. search needs) (λ c. search needs) loop-again
     (λ c. let s = c .before .before .before .before .before .args in omega (arith, needs-le (s .held) (wantedAt (s .wanted .now) (s .i)) (c .before .loop .k)))
     returns)

@@ -1,5 +1,5 @@
 -- `planner::plan_answer` meets its contract. Assumes nothing.
-use Rattle.ground.proofs.Tests.{tests}
+use Rattle.ground.proofs.Names.{tests}
 use Rattle.planner.proofs.plan_answer.Statement.{statement}
 use Rattle.planner.proofs.plan_answer.Tie as tie
 

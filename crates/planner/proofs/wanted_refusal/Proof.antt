@@ -1,11 +1,5 @@
 -- `planner::wanted_refusal` meets its contract. Assumes nothing.
-use Prim.Native.Nat.{ℕ, _*_, _/_, _%_}
-use native.Mathlib.Omega.{arith}
-use mathlib.Core.Bool.{Bool, true, false, _&&_}
-use mathlib.Core.Path.{_≡_, refl}
-use lib.Dec.{eqb}
-use borrow.Author.Tests.{eqb-true, eqb-false, eq-eqb, ne-eqb}
-use Rattle.ground.proofs.Tests.{tests}
+use Rattle.ground.proofs.Names.{ℕ, _*_, _/_, _%_, arith, Bool, true, false, _&&_, _≡_, refl, eqb, eqb-true, eqb-false, eq-eqb, ne-eqb, tests}
 use Rattle.planner.proofs.wanted_refusal.Statement.{statement}
 use Rattle.planner.proofs.wanted_refusal.Tie as tie
 
@@ -20,8 +14,4 @@ whole n wanted = go (eqb (wanted / 32) n) (eqb (wanted % 32) 0) refl refl
 
 pub wanted-refusal-spec : {M : Type 1} → statement M
 wanted-refusal-spec =
-    tie.close
-    (tie.spec
-    (λ c. search tests)
-    (λ c. rw (whole, c .before .if1 .left, c .if2 .taken))
-    (λ c. rw (whole, c .before .if1 .left, c .if2 .left)))
+    tie.close (tie.spec (λ c. search tests) (λ c. rw (whole, c .before .if1 .left, c .if2 .taken)) (λ c. rw (whole, c .before .if1 .left, c .if2 .left)))

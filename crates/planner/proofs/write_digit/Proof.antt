@@ -1,13 +1,6 @@
 -- `planner::write_digit` meets its contract, by what is right and wanted alike. Assumes nothing.
-use Prim.Native.Nat.{ℕ, _+_, _*_, _≤_}
-use native.Mathlib.Omega.{arith}
-use mathlib.Core.Bool.{Bool, true, false, not, _&&_}
-use mathlib.Core.List.{List, [], _∷_}
-use mathlib.Core.Path.{_≡_, refl, _∙_}
-use lib.Dec.{eqb}
+use Rattle.ground.proofs.Names.{ℕ, _+_, _*_, _≤_, arith, Bool, true, false, not, _&&_, List, [], _∷_, _≡_, refl, _∙_, eqb, needs, if}
 use mir.Val.{boolByte}
-use borrow.Author.Needs.{needs}
-use Rattle.ground.specs.Choice.{if}
 use Rattle.plans.specs.Least.{needBy}
 use Rattle.plans.specs.Plan.{put1, wordsBy}
 use Rattle.planner.specs.OneDriver.{put}
@@ -74,13 +67,7 @@ returns c =
 pub write-digit-spec : {M : Type 1} → statement M
 write-digit-spec =
     tie.close
-    (tie.spec
-    (λ c. search needs)
+    (tie.spec (λ c. search needs) (λ c. let a = c .before .args in omega (arith, one (eqb (a .x) (a .y) && not (eqb (a .b) (a .y)))))
     (λ c. let a = c .before .args in omega (arith, one (eqb (a .x) (a .y) && not (eqb (a .b) (a .y)))))
-    (λ c. let a = c .before .args in omega (arith, one (eqb (a .x) (a .y) && not (eqb (a .b) (a .y)))))
-    (λ c κs. let a = c .before .args in (omega (arith, one (eqb (a .x) (a .y) && not (eqb (a .b) (a .y)))), search needs))
-    (λ c κs. search needs)
-    write-if-requires
-    write-if-requires-2
-    (λ c. search needs)
-    returns)
+    (λ c κs. let a = c .before .args in (omega (arith, one (eqb (a .x) (a .y) && not (eqb (a .b) (a .y)))), search needs)) (λ c κs. search needs)
+    write-if-requires write-if-requires-2 (λ c. search needs) returns)

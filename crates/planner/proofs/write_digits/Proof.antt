@@ -1,12 +1,5 @@
 -- `planner::write_digits` meets its contract. The invariant: the words of the digits below k are put. Assumes nothing.
-use Prim.Native.Nat.{ℕ, _+_, _*_, _<_, _≤_, _-_}
-use native.Mathlib.Numerals.{add-one}
-use native.Mathlib.Nat.{add-mul}
-use native.Mathlib.Omega.{arith}
-use mathlib.Core.List.{List}
-use mathlib.Core.Path.{_≡_, refl}
-use lib.ListN.{length, getD}
-use borrow.Author.Needs.{needs}
+use Rattle.ground.proofs.Names.{ℕ, _+_, _*_, _<_, _≤_, _-_, add-one, add-mul, arith, List, _≡_, refl, length, getD, needs}
 use Rattle.digits.specs.declared.Planes.{Planes}
 use Rattle.plans.specs.Lists.{wantedAt}
 use Rattle.plans.specs.Least.{total, need, needAt, plain}
@@ -79,21 +72,6 @@ returns c =
 pub write-digits-spec : {M : Type 1} → statement M
 write-digits-spec =
     tie.close
-    (tie.spec
-    Inv-loop
-    μ-loop
-    (λ c. search needs)
-    loop-holds
-    (λ c. search needs)
-    (λ c. search needs)
-    (λ c. search needs)
-    (λ c. search needs)
-    (λ c. search needs)
-    (λ c. search needs)
-    (λ c. search needs)
-    write-digit-requires
-    (λ c. search needs)
-    (λ c. search needs)
-    loop-again
-    (λ c. rw (c .before .loop .inv .2) (length-put _ _ _ _))
-    returns)
+    (tie.spec Inv-loop μ-loop (λ c. search needs) loop-holds (λ c. search needs) (λ c. search needs) (λ c. search needs) (λ c. search needs) (λ c. search needs)
+    (λ c. search needs) (λ c. search needs) write-digit-requires (λ c. search needs) (λ c. search needs) loop-again
+    (λ c. rw (c .before .loop .inv .2) (length-put _ _ _ _)) returns)

@@ -1,6 +1,5 @@
 -- `planner::write_driver` meets its contract. Assumes nothing.
-use mathlib.Core.Path.{sym, _∙_}
-use borrow.Author.Needs.{needs}
+use Rattle.ground.proofs.Names.{sym, _∙_, needs}
 use Rattle.planner.proofs.Room.{in-room}
 use Rattle.planner.proofs.write_driver.Statement.{statement}
 use Rattle.planner.proofs.write_driver.Tie as tie
@@ -15,10 +14,4 @@ returns c =
 
 pub write-driver-spec : {M : Type 1} → statement M
 write-driver-spec =
-    tie.close
-    (tie.spec
-    (λ c κs. search needs)
-    write-plan-requires
-    (λ c. search needs)
-    returns
-    (λ c. rw (sym (c .before .in-room .ensures) ∙ c .if1 .left)))
+    tie.close (tie.spec (λ c κs. search needs) write-plan-requires (λ c. search needs) returns (λ c. rw (sym (c .before .in-room .ensures) ∙ c .if1 .left)))

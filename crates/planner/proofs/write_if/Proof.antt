@@ -1,9 +1,5 @@
 -- `planner::write_if` meets its contract. Assumes nothing.
-use Prim.Native.Nat.{_<_}
-use native.Mathlib.Omega.{arith}
-use mathlib.Core.Path.{refl}
-use lib.ListN.{length}
-use borrow.Author.Needs.{needs}
+use Rattle.ground.proofs.Names.{_<_, arith, refl, length, needs}
 use Rattle.planner.specs.OneDriver.{put}
 use Rattle.planner.proofs.write_if.Statement.{statement}
 use Rattle.planner.proofs.write_if.Tie as tie

@@ -1,10 +1,5 @@
 -- `planner::write_plan` meets its contract, by the laws of a list with a plan's words. Assumes nothing.
-use Prim.Native.Nat.{suc, _+_, _-_, _≤_}
-use native.Mathlib.Nat.{suc-mul, mul-le-mul-right}
-use native.Mathlib.Omega.{arith}
-use mathlib.Core.Path.{_≡_, ap, _∙_}
-use lib.ListN.{length, length-set}
-use borrow.Author.Needs.{needs}
+use Rattle.ground.proofs.Names.{suc, _+_, _-_, _≤_, suc-mul, mul-le-mul-right, arith, _≡_, ap, _∙_, length, length-set, needs}
 use Rattle.digits.specs.Digits.{cleared}
 use Rattle.digits.specs.declared.Planes.{Planes}
 use Rattle.plans.specs.Least.{plain}
@@ -80,21 +75,6 @@ returns-4 c =
 pub write-plan-spec : {M : Type 1} → statement M
 write-plan-spec =
     tie.close
-    (tie.spec
-    (λ c κs. search needs)
-    (λ c κs. search needs)
-    (λ c κs. search needs)
-    add-cleared
-    write-words-requires
-    (λ c κs. search needs)
-    (λ c. search needs)
-    slice-write-list
-    (λ c. search needs)
-    (λ c κs. search needs)
-    write-words-requires-2
-    (λ c. search needs)
-    returns
-    returns-2
-    (λ c. ap length (c .before .before .write-words2 .ensures) ∙ simp (length-put, length-set))
-    returns-3
-    returns-4)
+    (tie.spec (λ c κs. search needs) (λ c κs. search needs) (λ c κs. search needs) add-cleared write-words-requires (λ c κs. search needs) (λ c. search needs)
+    slice-write-list (λ c. search needs) (λ c κs. search needs) write-words-requires-2 (λ c. search needs) returns returns-2
+    (λ c. ap length (c .before .before .write-words2 .ensures) ∙ simp (length-put, length-set)) returns-3 returns-4)

@@ -1,10 +1,5 @@
 -- `planner::write_waits` meets its contract. The invariant: what is left of the no-ops is to be put from here on. Assumes nothing.
-use Prim.Native.Nat.{suc, _+_, _*_, _≤_, _<_, _-_}
-use native.Mathlib.Nat.{suc-mul, sub-zero}
-use native.Mathlib.Omega.{arith}
-use mathlib.Core.Path.{_≡_, refl}
-use lib.ListN.{length, replicate, length-set}
-use borrow.Author.Needs.{needs}
+use Rattle.ground.proofs.Names.{suc, _+_, _*_, _≤_, _<_, _-_, suc-mul, sub-zero, arith, _≡_, refl, length, replicate, length-set, needs}
 use Rattle.planner.specs.OneDriver.{put}
 use Rattle.planner.proofs.write_waits.Statement.{statement}
 use Rattle.planner.proofs.write_waits.Tie as tie
@@ -42,15 +37,5 @@ returns c = let e : c .before .before .args .count - c .before .loop .k ≡ 0 = 
 pub write-waits-spec : {M : Type 1} → statement M
 write-waits-spec =
     tie.close
-    (tie.spec
-    Inv-loop
-    μ-loop
-    loop-holds
-    (λ c. omega (arith, room c))
-    (λ c. omega (arith, room c))
-    (λ c. omega (arith, room c))
-    (λ c. search needs)
-    (λ c. search needs)
-    loop-again
-    (λ c. c .before .loop .inv .1)
-    returns)
+    (tie.spec Inv-loop μ-loop loop-holds (λ c. omega (arith, room c)) (λ c. omega (arith, room c)) (λ c. omega (arith, room c)) (λ c. search needs)
+    (λ c. search needs) loop-again (λ c. c .before .loop .inv .1) returns)

@@ -1,7 +1,5 @@
 -- `planner::write_words` meets its contract: the no-ops have room after the digits' words. Assumes nothing.
-use native.Mathlib.Nat.{add-mul}
-use native.Mathlib.Omega.{arith}
-use borrow.Author.Needs.{needs}
+use Rattle.ground.proofs.Names.{add-mul, arith, needs}
 use Rattle.plans.proofs.Planner.{length-steps}
 use Rattle.planner.proofs.Puts.{length-put, put-append}
 use Rattle.planner.proofs.write_words.Statement.{statement}

@@ -1,5 +1,5 @@
 -- `planner::wrong` meets its contract. Assumes nothing.
-use Rattle.ground.proofs.Tests.{tests}
+use Rattle.ground.proofs.Names.{tests}
 use Rattle.planner.proofs.wrong.Statement.{statement}
 use Rattle.planner.proofs.wrong.Tie as tie
 

@@ -1,8 +1,5 @@
 -- `ports::free_ports` meets its contract. Assumes nothing.
-use mathlib.Core.Path.{refl}
-use mathlib.Core.List.{[], _∷_}
-use Rattle.ground.proofs.Arrays.{past}
-use borrow.Author.Needs.{needs}
+use Rattle.ground.proofs.Names.{refl, [], _∷_, past, needs}
 use Rattle.ports.proofs.free_ports.Statement.{statement}
 use Rattle.ports.proofs.free_ports.Tie as tie
 

@@ -1,6 +1,5 @@
 -- `ports::irq_level` meets its contract. Assumes nothing.
-use Rattle.ground.proofs.Tests.{tests}
-use borrow.Author.Needs.{needs}
+use Rattle.ground.proofs.Names.{tests, needs}
 use Rattle.ports.proofs.irq_level.Statement.{statement}
 use Rattle.ports.proofs.irq_level.Tie as tie
 

@@ -1,5 +1,5 @@
 -- `ports::read_data` meets its contract. Assumes nothing.
-use borrow.Author.Needs.{needs}
+use Rattle.ground.proofs.Names.{needs}
 use Rattle.ports.proofs.read_data.Statement.{statement}
 use Rattle.ports.proofs.read_data.Tie as tie
 
@@ -8,11 +8,4 @@ returns c = simp (c .before .before .groups .ensures, c .before .free-ports .ens
 
 pub read-data-spec : {M : Type 1} → statement M
 read-data-spec =
-    tie.close
-    (tie.spec
-    (λ c κs. search needs)
-    (λ c. search needs)
-    (λ c. search needs)
-    (λ c κs. search needs)
-    (λ c κs. search needs)
-    returns)
+    tie.close (tie.spec (λ c κs. search needs) (λ c. search needs) (λ c. search needs) (λ c κs. search needs) (λ c κs. search needs) returns)

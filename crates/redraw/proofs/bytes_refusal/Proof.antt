@@ -1,11 +1,5 @@
 -- `redraw::bytes_refusal` meets its contract: each return has the tests that led there. Assumes nothing.
-use Prim.Native.Nat.{_+_, _*_}
-use native.Mathlib.Omega.{arith}
-use mathlib.Core.Bool.{true, false}
-use mathlib.Core.Path.{_≡_}
-use lib.Dec.{ltb}
-use borrow.Author.Needs.{needs}
-use borrow.Author.Tests.{lt-ltb, le-ltb}
+use Rattle.ground.proofs.Names.{_+_, _*_, arith, true, false, _≡_, ltb, needs, lt-ltb, le-ltb}
 use Rattle.redraw.proofs.BytesLaws.{lacks, has}
 use Rattle.redraw.proofs.bytes_refusal.Statement.{statement}
 use Rattle.redraw.proofs.bytes_refusal.Tie as tie

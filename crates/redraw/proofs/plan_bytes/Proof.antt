@@ -1,11 +1,5 @@
 -- `redraw::plan_bytes` meets its contract. Assumes nothing.
-use Prim.Native.Nat.{_+_, _-_, _*_, _≤_}
-use native.Mathlib.Omega.{arith}
-use mathlib.Core.Path.{_≡_, sym, _∙_}
-use lib.ListN.{length, take, drop, length-drop}
-use lib.Seq.{length-take-le}
-use borrow.Author.Needs.{needs}
-use borrow.Author.Tests.{ne-eqb}
+use Rattle.ground.proofs.Names.{_+_, _-_, _*_, _≤_, arith, _≡_, sym, _∙_, length, take, drop, length-drop, length-take-le, needs, ne-eqb}
 use Rattle.wire.proofs.LineLaws.{bytes-fit}
 use Rattle.redraw.specs.PlanBytes.{bytesNumber}
 use Rattle.redraw.proofs.BytesLaws.{bytes-served}
@@ -40,15 +34,5 @@ returns-2 c =
 pub plan-bytes-spec : {M : Type 1} → statement M
 plan-bytes-spec =
     tie.close
-    (tie.spec
-    (λ c κs. search needs)
-    returns
-    (λ c. omega (arith, served c))
-    (λ c. omega (arith, served c))
-    (λ c. omega (arith, served c))
-    (λ c. search needs)
-    (λ c. search needs)
-    (λ c. omega (arith, served c))
-    (λ c κs. search needs)
-    (λ c. search needs)
-    returns-2)
+    (tie.spec (λ c κs. search needs) returns (λ c. omega (arith, served c)) (λ c. omega (arith, served c)) (λ c. omega (arith, served c)) (λ c. search needs)
+    (λ c. search needs) (λ c. omega (arith, served c)) (λ c κs. search needs) (λ c. search needs) returns-2)

@@ -1,28 +1,8 @@
 -- `redraw::write_list` meets its contract: a walk of its MIR, by hand. Both slices are looked into once, before the loop. A turn copies one record out of the chain, and lends the list to `write_driver` for a lifetime of the turn's own.
 -- Assumes nothing.
-use native.Mathlib.Numerals.{add-one}
-use native.Mathlib.Omega.{arith}
-use mathlib.Core.List.{_++_}
-use lib.Dec.{ltb, T as Holds}
-use mir.Syntax.{Place, Opd as Operand, Body, place, field, deref, seq, assign, call, cond, skip, exit, block, loop, copy, int, rvOpd, addrOf, aggregate, op2, mul, add, lt, offset, unsigned, tyUnit, tyRef, erased, mut, imm}
-use mir.Val.{Val, vunit, vbool, WT, hasTy}
-use base.Fml.{flent}
-use prog.Wp.{Env, Calls, Loops}
-use sound.WpLaws.{FmC}
-use types.Kit.{Item, Post, Seq, runs, lands, some, later, use3, await, pick, feqI}
-use types.Run.{Opds, unit-lit}
-use types.SemTy.{Arr, cells}
-use types.Tokens.{lft-new, lft-end}
-use denote.Index.{whole-in, whole-out}
-use denote.Lend.{Held, lends-slice, slice-back}
-use denote.Memory.{mem as memOf, pointee}
-use denote.Shadow.{pureL}
-use denote.Signature.{shrSliceOf}
-use denote.Slice.{sliceTy, shr-slice-copy}
-use denote.Steps.{only}
+use Rattle.ground.proofs.Names.{add-one, arith, _++_, ltb, Holds}
 use denote.Struct.Laws as LL
-use denote.Triple.Walked.{stay-dropped, goes-dropped}
-use Rattle.lent.proofs.Logic.{_≡_, refl, sym, ap, subst, ℕ, zero-le, _+_, _-_, _<_, _≤_, _^_, le-antisymm, List, [], _∷_, lit<, ltb→lt, nltb→le, length, getD, URA, fullShare, named, w64, tyInt, tyPtr, tyBool, vint, vptr, SProp, emp, id⊢, via, fst∗, Lft, GName, Share, ftrue, fat, froom, flft, Memory, Routine, Heap, Tables, Atoms, Fun, givenOf, tables, tablesOf, Given, ‵, raw, _⊛_, _$_, _∵_, !, qed, move, keep, drop, use1, use2, feqL, split, join, rewrite, fsplit, fjoin, suffices, frame, done, agg, whole, sub, look-in, look, look-raw, init, store, forget, stop, hop, fld, from, load, lit, of-opd, bin, addr, and-then, no-more, assigns, assigns-last, land, returns, enter, alloc1, alloc0, params1, pass1, pass0, free0, fmOf, RattleType, owns, Is, shows, RefT, pureI, sliceVal, ShrSlice, MutSlice, Room, at-slice, finally, slice-vals, shr-slice-tells, mut-slice-tells, row, place-is, elem-out, elem-back, looks-slice, shuts-slice, opens-slice, closes-slice, plain, nothing, onEntry, Bound, tripleOf, Triple, cited, says, Stays, stay-slice, goes-slice, ends-at, yes, scaled-fits}
+use Rattle.lent.proofs.Logic.{_≡_, refl, sym, ap, subst, ℕ, zero-le, _+_, _-_, _<_, _≤_, _^_, le-antisymm, List, [], _∷_, lit<, ltb→lt, nltb→le, length, getD, URA, fullShare, named, w64, tyInt, tyPtr, tyBool, vint, vptr, SProp, emp, id⊢, via, fst∗, Lft, GName, Share, ftrue, fat, froom, flft, Memory, Routine, Heap, Tables, Atoms, Fun, givenOf, tables, tablesOf, Given, ‵, raw, _⊛_, _$_, _∵_, !, qed, move, keep, drop, use1, use2, feqL, split, join, rewrite, fsplit, fjoin, suffices, frame, done, agg, whole, sub, look-in, look, look-raw, init, store, forget, stop, hop, fld, from, load, lit, of-opd, bin, addr, and-then, no-more, assigns, assigns-last, land, returns, enter, alloc1, alloc0, params1, pass1, pass0, free0, fmOf, RattleType, owns, Is, shows, RefT, pureI, sliceVal, ShrSlice, MutSlice, Room, at-slice, finally, slice-vals, shr-slice-tells, mut-slice-tells, row, place-is, elem-out, elem-back, looks-slice, shuts-slice, opens-slice, closes-slice, plain, nothing, onEntry, Bound, tripleOf, Triple, cited, says, Stays, stay-slice, goes-slice, ends-at, yes, scaled-fits, Place, Operand, Body, place, field, deref, seq, assign, cond, skip, exit, block, loop, copy, int, rvOpd, addrOf, aggregate, op2, mul, add, lt, offset, unsigned, tyUnit, tyRef, erased, mut, imm, Val, vunit, vbool, WT, hasTy, flent, Env, Calls, Loops, FmC, Item, Post, Seq, runs, lands, some, later, use3, await, pick, feqI, Opds, unit-lit, Arr, cells, lft-new, lft-end, whole-in, whole-out, Held, lends-slice, slice-back, memOf, pointee, pureL, shrSliceOf, sliceTy, shr-slice-copy, only, stay-dropped, goes-dropped, call}
 use Rattle.device.specs.PowerUp.{powerUp}
 use Rattle.device.specs.declared.Device.{Device}
 use Rattle.device.proofs.Device as T
@@ -30,19 +10,12 @@ use Rattle.device.proofs.Device.Laws as T′
 use Rattle.pass.specs.Found.{toPass}
 use Rattle.pass.proofs.FoundLaws.{pass-below}
 use Rattle.pass.proofs.to_pass as look′
-use Rattle.pass.proofs.to_pass.Symbol as look-def
-use Rattle.pass.proofs.to_pass.Met as look-thm
 use Rattle.planner.specs.OneDriver.{withDriver, listTo}
 use Rattle.planner.proofs.Listed.{length-listed}
 use Rattle.planner.proofs.write_driver as writing
-use Rattle.planner.proofs.write_driver.Symbol as writing-def
-use Rattle.planner.proofs.write_driver.Met as writing-thm
 use Rattle.lent.proofs.Records.{size, byte, half, device, recordBytes}
 use Rattle.lent.proofs.Walk.{Walk, has-data, calls-value, calls-fn, leave, leave-room, tests, whiles, proves}
-use Rattle.redraw.proofs.write_list.Key as key
 use Rattle.redraw.proofs.write_list as write-list
-use Rattle.redraw.proofs.write_list.Statement as stated
-use Rattle.redraw.proofs.write_list.Code as code
 
 abbrev R : RattleType
 R = device .row
@@ -81,11 +54,11 @@ abbrev Wanted : {M : Type 1} (𝓤 : URA M) → Lft → RefT (List ℕ) → Item
 Wanted 𝓤 κ₁ wanted = ‵ (ShrSlice (named 1) κ₁ (byte .row) .own wanted (slice-vals wanted))
 
 module _ {M : Type 1} {𝓤 : URA M} {H : Heap 𝓤} {A : Atoms 𝓤} {K : Type 0} {W : Given 𝓤 H A} {Γ : List (Item 𝓤)} {E : Env 𝓤 H} {C : Calls 𝓤 H} {Λ : Loops 𝓤 H} {p : Post 𝓤 H} {xs : List Operand} {d : Place} {rest : Body} where
-  writes : K → FmC 𝓤 H (W .laws) C → (mem : Memory → SProp 𝓤) (run : Routine → Fun 𝓤) → Triple 𝓤 (C writing-def.name) (tripleOf 𝓤 H A writing.signature (writing.spec 𝓤 H A mem run))
+  writes : K → FmC 𝓤 H (W .laws) C → (mem : Memory → SProp 𝓤) (run : Routine → Fun 𝓤) → Triple 𝓤 (C writing.Symbol.name) (tripleOf 𝓤 H A writing.signature (writing.spec 𝓤 H A mem run))
       → (κ₁ : Lft) (q₁ : Share) (wanted : RefT (List ℕ)) (b o : ℕ) (ls : List ℕ) → Room S (length ls) → (n k i : ℕ) (e : Device) → Is (size .row) n (size .val n ∷ []) → Is (size .row) k (size .val k ∷ []) → Is (size .row) i (size .val i ∷ []) → Is R e (device .val e ∷ [])
       → ((ν : ℕ) (δ : GName) → Opds K W (raw (tripleOf 𝓤 H A writing.signature (writing.spec 𝓤 H A mem run) .pre (at-writing 𝓤 H A κ₁ q₁ wanted b o ls n k i e ν δ, tt)) ∷ Wanted 𝓤 κ₁ wanted ∷ ‵ (flent (ν ∷ []) (Held S (length ls) b o δ)) ∷ Γ) E xs (sliceVal (b, o) (length ls) ∷ sliceVal (wanted .ptr) (length (wanted .now)) ∷ size .val n ∷ size .val k ∷ size .val i ∷ device .val e ∷ []))
       → ((w : Val) → w ∷ [] ≡ vunit ∷ [] → Seq K W (‵ (row S fullShare (withDriver ls (wanted .now) n k i e) b o) ∷ Toks 𝓤 κ₁ q₁ ∷ Wanted 𝓤 κ₁ wanted ∷ Γ) (lands C Λ E d w rest p))
-      → Seq K W (‵ (row S fullShare ls b o) ∷ Wanted 𝓤 κ₁ wanted ∷ Toks 𝓤 κ₁ q₁ ∷ Γ) (runs C Λ E (seq (call writing-def.name xs d) rest) p)
+      → Seq K W (‵ (row S fullShare ls b o) ∷ Wanted 𝓤 κ₁ wanted ∷ Toks 𝓤 κ₁ q₁ ∷ Γ) (runs C Λ E (seq (call writing.Symbol.name xs d) rest) p)
   writes t fm mem run known κ₁ q₁ wanted b o ls room n k i e is-n is-k is-i is-e os next =
       lft-new t tt (λ ν. move t (1 ∷ []) $ use1 W (‵ (cells (memOf S) ls b o)) (whole-in 𝓤 H A W S ls b o) $
       use1 W (later (some (λ (δ : GName). ‵ (MutSlice (named 0) (ν ∷ []) S .own (lent-list 𝓤 H A κ₁ q₁ wanted b o ls n k i e δ) (slice-vals (lent-list 𝓤 H A κ₁ q₁ wanted b o ls n k i e δ))) ⊛ ‵ (flent (ν ∷ []) (Held S (length ls) b o δ))))) (lends-slice 𝓤 H A W S (named 0) (ν ∷ []) ls b o room) $ await t tt $ pick t (λ δ. split t $
@@ -134,7 +107,7 @@ module _ {M : Type 1} (𝓤 : URA M) (H : Heap 𝓤) (A : Atoms 𝓤) (W : Given
       (seq (assign (place 13 []) (op2 (mul unsigned) (copy (place 8 [])) (int w64 recordBytes)))
       (seq (assign (place 14 []) (op2 offset (copy (place 1 (field 0 ∷ []))) (copy (place 13 []))))
       (seq (assign (place 15 []) (rvOpd (copy (place 14 (deref (device .ty) ∷ [])))))
-      (seq (call writing-def.name (copy (place 12 []) ∷ copy (place 3 []) ∷ copy (place 6 []) ∷ copy (place 5 []) ∷ copy (place 8 []) ∷ copy (place 15 []) ∷ []) (place 10 []))
+      (seq (call writing.Symbol.name (copy (place 12 []) ∷ copy (place 3 []) ∷ copy (place 6 []) ∷ copy (place 5 []) ∷ copy (place 8 []) ∷ copy (place 15 []) ∷ []) (place 10 []))
       (assign (place 8 []) (op2 (add unsigned) (copy (place 8 [])) (int w64 1))))))))))
 
   module _ (l0 l1 l2 l3 l4 l5 l6 l7 l8 l9 l10 l11 l12 l13 l14 l15 : ℕ) where
@@ -149,7 +122,7 @@ module _ {M : Type 1} (𝓤 : URA M) (H : Heap 𝓤) (A : Atoms 𝓤) (W : Given
     abbrev Changed : Share → Item 𝓤 → ℕ → List (Item 𝓤)
     Changed q′ test i = ‵ (row S fullShare (vs i) b₁ o₁) ∷ ‵ (row R q′ ys b o) ∷ ‵ (fat fullShare (tyInt w64) l8 0 (vint w64 i)) ∷ test ∷ ‵ (froom tyUnit l10 0) ∷ ‵ (froom (tyRef erased mut (pointee (S .written))) l11 0) ∷ ‵ (froom (sliceTy (tyRef erased mut (pointee (S .written)))) l12 0) ∷ ‵ (froom (tyInt w64) l13 0) ∷ ‵ (froom tyPtr l14 0) ∷ ‵ (froom (device .ty) l15 0) ∷ []
 
-    looped : {K : Type 0} → K → (𝓣 : Tables 𝓤 H) → Triple 𝓤 (𝓣 .C writing-def.name) (tripleOf 𝓤 H A writing.signature (writing.spec 𝓤 H A mem run))
+    looped : {K : Type 0} → K → (𝓣 : Tables 𝓤 H) → Triple 𝓤 (𝓣 .C writing.Symbol.name) (tripleOf 𝓤 H A writing.signature (writing.spec 𝓤 H A mem run))
         → Room R n → Room S (length ws) → Is (size .row) k (size .val k ∷ []) → (q′ : Share) {Θ : List (Item 𝓤)} {rest : Body} {p : Post 𝓤 H}
         → Seq K W (Changed q′ (‵ (fat fullShare tyBool l9 0 (vbool (ltb m m)))) m ++ (Read ++ Θ)) (runs (𝓣 .C) (𝓣 .Λ) Locals rest p)
         → Seq K W (Changed q′ (‵ (froom tyBool l9 0)) 0 ++ (Read ++ Θ)) (runs (𝓣 .C) (𝓣 .Λ) Locals (seq (block (loop turn)) rest) p)
@@ -184,10 +157,10 @@ module _ {M : Type 1} (𝓤 : URA M) (H : Heap 𝓤) (A : Atoms 𝓤) (W : Given
         let same : i ≡ m = le-antisymm (t .1) (nltb→le i m stops) in
         subst (λ (j : ℕ). Seq K W (Changed q′ (‵ (fat fullShare tyBool l9 0 (vbool (ltb j m)))) j ++ (Read ++ Θ)) (runs (𝓣 .C) (𝓣 .Λ) Locals rest p)) (sym same) ended))
 
-  walk : (𝓣 : Tables 𝓤 H) → Triple 𝓤 (𝓣 .C look-def.name) (tripleOf 𝓤 H A look′.signature (look′.spec 𝓤 H A mem run)) → Triple 𝓤 (𝓣 .C writing-def.name) (tripleOf 𝓤 H A writing.signature (writing.spec 𝓤 H A mem run))
-      → Room R n → Is (byte .row) number (byte .val number ∷ []) → Room (byte .row) (length (wanted .now)) → Room S (length ws) → Is (size .row) k (size .val k ∷ []) → Walk 𝓤 H A write-list.ended stayed (write-list.clauses 𝓤 H A mem run) 𝓣 code.function y tt
+  walk : (𝓣 : Tables 𝓤 H) → Triple 𝓤 (𝓣 .C look′.Symbol.name) (tripleOf 𝓤 H A look′.signature (look′.spec 𝓤 H A mem run)) → Triple 𝓤 (𝓣 .C writing.Symbol.name) (tripleOf 𝓤 H A writing.signature (writing.spec 𝓤 H A mem run))
+      → Room R n → Is (byte .row) number (byte .val number ∷ []) → Room (byte .row) (length (wanted .now)) → Room S (length ws) → Is (size .row) k (size .val k ∷ []) → Walk 𝓤 H A write-list.ended stayed (write-list.clauses 𝓤 H A mem run) 𝓣 write-list.Code.function y tt
   walk 𝓣 known-look known-writing room is-number room₁ room₂ is-k =
-      qed W ((‵ (flft κ q) ⊛ ‵ (flft κ₁ q₁) ⊛ ‵ (flft κ₂ q₂) ⊛ ‵ ftrue) ∷ ‵ (owns (ShrSlice (named 0) κ R ∷ byte .row ∷ ShrSlice (named 1) κ₁ (byte .row) ∷ MutSlice (named 2) κ₂ S ∷ size .row ∷ []) (y .3) (y .4)) ∷ []) ∵ enter ! (𝓣 .C) (𝓣 .Λ) code.function _ _ $
+      qed W ((‵ (flft κ q) ⊛ ‵ (flft κ₁ q₁) ⊛ ‵ (flft κ₂ q₂) ⊛ ‵ ftrue) ∷ ‵ (owns (ShrSlice (named 0) κ R ∷ byte .row ∷ ShrSlice (named 1) κ₁ (byte .row) ∷ MutSlice (named 2) κ₂ S ∷ size .row ∷ []) (y .3) (y .4)) ∷ []) ∵ enter ! (𝓣 .C) (𝓣 .Λ) write-list.Code.function _ _ $
       alloc1 ! (λ l0. alloc1 ! (λ l1. alloc1 ! (λ l2. alloc1 ! (λ l3. alloc1 ! (λ l4. alloc1 ! (λ l5. alloc1 ! (λ l6. alloc1 ! (λ l7. alloc1 ! (λ l8. alloc1 ! (λ l9. alloc1 ! (λ l10. alloc1 ! (λ l11. alloc1 ! (λ l12. alloc1 ! (λ l13. alloc1 ! (λ l14. alloc1 ! (λ l15. alloc0 ! $ params1 ! $
       pass1 ! (init ! 28 refl (tt, (tt, (record { fits = room .0 }, tt)))) $ pass1 ! (init ! 26 refl (byte .typed 𝓤 H A W number is-number)) $ pass1 ! (init ! 24 refl (tt, (tt, (record { fits = room₁ .0 }, tt)))) $ pass1 ! (init ! 22 refl (tt, (tt, (record { fits = room₂ .0 }, tt)))) $ pass1 ! (init ! 20 refl (size .typed 𝓤 H A W k is-k)) $ pass0 ! $
       -- [_15; …; _14; …; ..; _0; …; the tokens; what the parameters own]
@@ -212,11 +185,11 @@ module _ {M : Type 1} (𝓤 : URA M) (H : Heap 𝓤) (A : Atoms 𝓤) (W : Given
       move ! (4 ∷ []) $ split ! $ move ! (5 ∷ 1 ∷ []) $ join ! $ move ! (1 ∷ 0 ∷ []) $ join ! $ move ! (1 ∷ 0 ∷ []) $ join ! $ frame ! $ fjoin ! $ pureI ! (at-slice S (ref γ₁ (vs m)) (slice-vals (ref γ₁ ws))) (tt, (tt, tt)) (ap (λ (j : ℕ). sliceVal (b₁, o₁) j ∷ []) (sym (long m)), subst (Room S) (sym (long m)) room₂) $
       fjoin ! $ nothing ! $ nothing ! $ fjoin ! $ move ! (1 ∷ 0 ∷ []) $ fjoin ! $ nothing ! $ fjoin ! $ nothing ! $ fjoin ! $ nothing ! $ fjoin ! $ frame ! $ feqI ! (List Val) (vunit ∷ []) (vunit ∷ []) refl $ done !)))))))))))))))))))))
 
-pub write-list-spec : {M : Type 1} → stated.statement M
-unfolding code.routine tablesOf
+pub write-list-spec : {M : Type 1} → write-list.Statement.statement M
+unfolding write-list.Code.routine tablesOf
 write-list-spec 𝓤 H 𝓜 𝓖 𝓡 =
     let W = givenOf 𝓤 H 𝓜 𝓖 in
-    proves 𝓤 H 𝓜 𝓖 𝓡 code.env write-list.ended stayed (write-list.clauses 𝓤 H (𝓖 .A) (𝓜 .mem) (𝓡 .run)) (goes-dropped 𝓤 H (𝓖 .A) W 3 (shrSliceOf (0 ∷ []) tt (plain (λ _. R))) yes (λ κs x f. refl), (goes-dropped 𝓤 H (𝓖 .A) W 3 (plain (λ _. byte .row)) yes (λ κs x f. refl), (goes-dropped 𝓤 H (𝓖 .A) W 3 (shrSliceOf (1 ∷ []) tt (plain (λ _. byte .row))) yes (λ κs x f. refl), (goes-slice 𝓤 H (𝓖 .A) W 3 2 tt (plain (λ _. S)), (goes-dropped 𝓤 H (𝓖 .A) W 3 (plain (λ _. size .row)) yes (λ κs x f. refl), tt)))))
-    key.name code.function (code.unfolded 𝓤 H 𝓜 𝓡) (λ κs. (slice-vals, ((λ n. byte .val n ∷ []), (slice-vals, (slice-vals, ((λ n. size .val n ∷ []), tt)))))) (λ κs. (shr-slice-tells (named 0) (κs .0) R, (byte .tells, (shr-slice-tells (named 1) (κs .1 .0) (byte .row), (mut-slice-tells (named 2) (κs .1 .1 .0) S, (size .tells, tt))))))
-    (λ κs qs bounds a g are. via 𝓤 _ (fst∗ 𝓤 _ (emp 𝓤)) (walk 𝓤 H (𝓖 .A) W (𝓜 .mem) (𝓡 .run) (κs .0) (κs .1 .0) (κs .1 .1 .0) (qs .0) (qs .1 .0) (qs .1 .1 .0) (a .0 .ptr .0) (a .0 .ptr .1) (a .0 .name) (a .0 .now) (a .1 .0) (a .1 .1 .0) (a .1 .1 .1 .0 .ptr .0) (a .1 .1 .1 .0 .ptr .1) (a .1 .1 .1 .0 .name) (a .1 .1 .1 .0 .now) (a .1 .1 .1 .1 .0) (tablesOf 𝓤 H 𝓜 (tables 𝓤 H 𝓜 𝓡 code.env))
-    (cited 𝓤 H _ 𝓜 𝓡 code.env look-def.name look-def.routine code.calls-pass·to-pass (look-thm.met 𝓤 H 𝓜 𝓖 𝓡)) (cited 𝓤 H _ 𝓜 𝓡 code.env writing-def.name writing-def.routine code.calls-planner·write-driver (writing-thm.met 𝓤 H 𝓜 𝓖 𝓡)) (are .0 .0 .1) (are .1 .0) (are .1 .1 .0 .0 .1) (are .1 .1 .1 .0 .0 .1) (are .1 .1 .1 .1 .0)))
+    proves 𝓤 H 𝓜 𝓖 𝓡 write-list.Code.env write-list.ended stayed (write-list.clauses 𝓤 H (𝓖 .A) (𝓜 .mem) (𝓡 .run)) (goes-dropped 𝓤 H (𝓖 .A) W 3 (shrSliceOf (0 ∷ []) tt (plain (λ _. R))) yes (λ κs x f. refl), (goes-dropped 𝓤 H (𝓖 .A) W 3 (plain (λ _. byte .row)) yes (λ κs x f. refl), (goes-dropped 𝓤 H (𝓖 .A) W 3 (shrSliceOf (1 ∷ []) tt (plain (λ _. byte .row))) yes (λ κs x f. refl), (goes-slice 𝓤 H (𝓖 .A) W 3 2 tt (plain (λ _. S)), (goes-dropped 𝓤 H (𝓖 .A) W 3 (plain (λ _. size .row)) yes (λ κs x f. refl), tt)))))
+    write-list.Key.name write-list.Code.function (write-list.Code.unfolded 𝓤 H 𝓜 𝓡) (λ κs. (slice-vals, ((λ n. byte .val n ∷ []), (slice-vals, (slice-vals, ((λ n. size .val n ∷ []), tt)))))) (λ κs. (shr-slice-tells (named 0) (κs .0) R, (byte .tells, (shr-slice-tells (named 1) (κs .1 .0) (byte .row), (mut-slice-tells (named 2) (κs .1 .1 .0) S, (size .tells, tt))))))
+    (λ κs qs bounds a g are. via 𝓤 _ (fst∗ 𝓤 _ (emp 𝓤)) (walk 𝓤 H (𝓖 .A) W (𝓜 .mem) (𝓡 .run) (κs .0) (κs .1 .0) (κs .1 .1 .0) (qs .0) (qs .1 .0) (qs .1 .1 .0) (a .0 .ptr .0) (a .0 .ptr .1) (a .0 .name) (a .0 .now) (a .1 .0) (a .1 .1 .0) (a .1 .1 .1 .0 .ptr .0) (a .1 .1 .1 .0 .ptr .1) (a .1 .1 .1 .0 .name) (a .1 .1 .1 .0 .now) (a .1 .1 .1 .1 .0) (tablesOf 𝓤 H 𝓜 (tables 𝓤 H 𝓜 𝓡 write-list.Code.env))
+    (cited 𝓤 H _ 𝓜 𝓡 write-list.Code.env look′.Symbol.name look′.Symbol.routine write-list.Code.calls-pass·to-pass (look′.Met.met 𝓤 H 𝓜 𝓖 𝓡)) (cited 𝓤 H _ 𝓜 𝓡 write-list.Code.env writing.Symbol.name writing.Symbol.routine write-list.Code.calls-planner·write-driver (writing.Met.met 𝓤 H 𝓜 𝓖 𝓡)) (are .0 .0 .1) (are .1 .0) (are .1 .1 .0 .0 .1) (are .1 .1 .1 .0 .0 .1) (are .1 .1 .1 .1 .0)))

@@ -1,6 +1,5 @@
 -- `refusals::size_refusal` meets its contract: each return has the tests that led there. Assumes nothing.
-use borrow.Author.Needs.{needs}
-use Rattle.ground.proofs.Tests.{tests}
+use Rattle.ground.proofs.Names.{needs, tests}
 use Rattle.refusals.proofs.size_refusal.Statement.{statement}
 use Rattle.refusals.proofs.size_refusal.Tie as tie
 

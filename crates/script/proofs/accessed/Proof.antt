@@ -1,10 +1,5 @@
 -- `script::accessed` meets its contract. Assumes nothing.
-use Prim.Native.Nat.{_≤_}
-use native.Mathlib.Omega.{arith}
-use mathlib.Core.Path.{sym, ap, _∙_}
-use lib.Seq.{length-take-le}
-use lib.ListN.{length, drop, length-drop}
-use borrow.Author.Needs.{needs}
+use Rattle.ground.proofs.Names.{_≤_, arith, sym, ap, _∙_, length-take-le, length, drop, length-drop, needs}
 use Rattle.refusals.specs.Refusals.{bytesFor}
 use Rattle.calls.specs.Calls.{access}
 use Rattle.row.specs.declared.Done.{Done}
@@ -53,19 +48,5 @@ returns-2 c =
 pub accessed-spec : {M : Type 1} → statement M
 accessed-spec =
     tie.close
-    (tie.spec
-    (λ c κs. search needs)
-    (λ c. search needs)
-    (λ c. search needs)
-    (λ c. search needs)
-    (λ c. search needs)
-    (λ c κs. search needs)
-    (λ c. search needs)
-    array-share-prefix-room
-    slice-aggregate-answer-line
-    answer-line-requires
-    (λ c. search needs)
-    returns
-    (λ c κs. search needs)
-    (λ c. search needs)
-    returns-2)
+    (tie.spec (λ c κs. search needs) (λ c. search needs) (λ c. search needs) (λ c. search needs) (λ c. search needs) (λ c κs. search needs) (λ c. search needs)
+    array-share-prefix-room slice-aggregate-answer-line answer-line-requires (λ c. search needs) returns (λ c κs. search needs) (λ c. search needs) returns-2)

@@ -1,8 +1,5 @@
 -- `script::given` meets its contract. Assumes nothing.
-use native.Mathlib.Omega.{arith}
-use mathlib.Core.Path.{refl}
-use borrow.Author.Tests.{eq-eqb, ne-eqb}
-use borrow.Author.Needs.{needs}
+use Rattle.ground.proofs.Names.{arith, refl, eq-eqb, ne-eqb, needs}
 use Rattle.script.proofs.given.Statement.{statement}
 use Rattle.script.proofs.given.Tie as tie
 

@@ -1,10 +1,5 @@
 -- `script::print` meets its contract. Assumes nothing.
-use Prim.Native.Nat.{_<_}
-use native.Mathlib.Omega.{arith}
-use lib.Dec.{ltb}
-use borrow.Author.Tests.{ltb-true}
-use borrow.Author.Needs.{needs}
-use Rattle.ground.proofs.Truth.{and-right}
+use Rattle.ground.proofs.Names.{_<_, arith, ltb, ltb-true, needs, and-right}
 use Rattle.script.proofs.RoomLaws.{written-length, both-written}
 use Rattle.script.proofs.StartLaws.{chain-short, prints-lines, prints-refusal}
 use Rattle.script.proofs.print.Statement.{statement}
@@ -35,14 +30,5 @@ returns-2 c =
 pub print-spec : {M : Type 1} → statement M
 print-spec =
     tie.close
-    (tie.spec
-    (λ c κs. search needs)
-    (λ c κs. search needs)
-    (λ c κs. search needs)
-    (λ c. search needs)
-    run-records-requires
-    (λ c. search needs)
-    returns
-    (λ c κs. search needs)
-    (λ c. search needs)
-    returns-2)
+    (tie.spec (λ c κs. search needs) (λ c κs. search needs) (λ c κs. search needs) (λ c. search needs) run-records-requires (λ c. search needs) returns
+    (λ c κs. search needs) (λ c. search needs) returns-2)

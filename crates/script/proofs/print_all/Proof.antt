@@ -1,7 +1,5 @@
 -- `script::print_all` meets its contract. Assumes nothing.
-use mathlib.Core.Path.{_≡_}
-use lib.ListN.{length}
-use borrow.Author.Needs.{needs}
+use Rattle.ground.proofs.Names.{_≡_, length, needs}
 use Rattle.script.proofs.StartLaws.{always-served}
 use Rattle.script.proofs.print_all.Statement.{statement}
 use Rattle.script.proofs.print_all.Tie as tie

@@ -1,6 +1,5 @@
 -- `script::room_for` meets its contract. Assumes nothing.
-use borrow.Author.Needs.{needs}
-use Rattle.ground.proofs.Tests.{tests}
+use Rattle.ground.proofs.Names.{needs, tests}
 use Rattle.script.proofs.room_for.Statement.{statement}
 use Rattle.script.proofs.room_for.Tie as tie
 

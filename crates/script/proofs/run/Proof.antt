@@ -1,7 +1,5 @@
 -- `script::run` meets its contract. Assumes nothing.
-use native.Mathlib.Omega.{arith}
-use borrow.Author.Tests.{lt-ltb, le-ltb}
-use borrow.Author.Needs.{needs}
+use Rattle.ground.proofs.Names.{arith, lt-ltb, le-ltb, needs}
 use Rattle.script.proofs.StartLaws.{too-little, ran, printed-long, printed-items}
 use Rattle.script.proofs.run.Statement.{statement}
 use Rattle.script.proofs.run.Tie as tie
@@ -36,13 +34,4 @@ returns-3 c =
 
 pub run-spec : {M : Type 1} → statement M
 run-spec =
-    tie.close
-    (tie.spec
-    (λ c κs. search needs)
-    returns
-    refusal-line-requires
-    (λ c. search needs)
-    returns-2
-    print-requires
-    (λ c. search needs)
-    returns-3)
+    tie.close (tie.spec (λ c κs. search needs) returns refusal-line-requires (λ c. search needs) returns-2 print-requires (λ c. search needs) returns-3)

@@ -1,9 +1,5 @@
 -- `script::run_records` meets its contract. Assumes nothing.
-use Prim.Native.Nat.{_-_}
-use native.Mathlib.Omega.{arith}
-use mathlib.Core.Path.{_∙_}
-use lib.ListN.{length}
-use borrow.Author.Needs.{needs}
+use Rattle.ground.proofs.Names.{_-_, arith, _∙_, length, needs}
 use Rattle.script.proofs.RoomLaws.{written-length}
 use Rattle.script.proofs.LoopLaws.{Running, run-starts, found, part-fits, stops-malformed, stops-chain, goes-on, run-ends}
 use Rattle.script.proofs.run_records.Statement.{statement}
@@ -100,28 +96,6 @@ returns-3 c = run-ends (c .before .loop .inv) (omega arith)
 pub run-records-spec : {M : Type 1} → statement M
 run-records-spec =
     tie.close
-    (tie.spec
-    Inv-loop
-    μ-loop
-    (λ c κs. search needs)
-    loop-holds
-    sub-rest
-    (λ c. search needs)
-    (λ c. search needs)
-    (λ c κs. search needs)
-    refusal-line-requires
-    same-length
-    returns
-    (λ c κs. search needs)
-    refusal-line-requires-2
-    same-length-2
-    returns-2
-    sub-obeyed
-    part-obeyed-start
-    part-obeyed-end
-    obeyed-requires
-    add-from
-    loop-less
-    loop-again
-    same-length-3
-    returns-3)
+    (tie.spec Inv-loop μ-loop (λ c κs. search needs) loop-holds sub-rest (λ c. search needs) (λ c. search needs) (λ c κs. search needs) refusal-line-requires
+    same-length returns (λ c κs. search needs) refusal-line-requires-2 same-length-2 returns-2 sub-obeyed part-obeyed-start part-obeyed-end obeyed-requires
+    add-from loop-less loop-again same-length-3 returns-3)

@@ -1,7 +1,5 @@
 -- `script::start_of` meets its contract. Assumes nothing.
-use native.Mathlib.Omega.{arith}
-use mathlib.Core.Path.{sym, _∙_}
-use borrow.Author.Needs.{needs}
+use Rattle.ground.proofs.Names.{arith, sym, _∙_, needs}
 use Rattle.script.proofs.StartLaws.{starts-after, starts-at-call, starts-malformed}
 use Rattle.script.proofs.start_of.Statement.{statement}
 use Rattle.script.proofs.start_of.Tie as tie
@@ -17,12 +15,4 @@ returns-3 c = starts-malformed _ _ (c .before .record-size .ensures) (omega arit
 
 pub start-of-spec : {M : Type 1} → statement M
 start-of-spec =
-    tie.close
-    (tie.spec
-    (λ c κs. search needs)
-    (λ c κs. search needs)
-    (λ c κs. search needs)
-    (λ c. search needs)
-    returns
-    returns-2
-    returns-3)
+    tie.close (tie.spec (λ c κs. search needs) (λ c κs. search needs) (λ c κs. search needs) (λ c. search needs) returns returns-2 returns-3)

@@ -1,12 +1,8 @@
 -- `transfers::few` meets its contract. Assumes nothing.
-use borrow.Author.Needs.{needs}
-use Rattle.ground.proofs.Tests.{tests}
+use Rattle.ground.proofs.Names.{needs, tests}
 use Rattle.transfers.proofs.few.Statement.{statement}
 use Rattle.transfers.proofs.few.Tie as tie
 
 pub few-spec : {M : Type 1} → statement M
 few-spec =
-    tie.close
-    (tie.spec
-    (λ c. (search tests, search needs))
-    (λ c. (search tests, search needs)))
+    tie.close (tie.spec (λ c. (search tests, search needs)) (λ c. (search tests, search needs)))

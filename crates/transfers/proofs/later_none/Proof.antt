@@ -1,9 +1,5 @@
 -- `transfers::later_none` meets its contract. Assumes nothing.
-use Prim.Native.Nat.{_≤_, _-_}
-use native.Mathlib.Omega.{arith}
-use mathlib.Core.Path.{_≡_, refl, sym, _∙_}
-use lib.ListN.{length}
-use borrow.Author.Needs.{needs}
+use Rattle.ground.proofs.Names.{_≤_, _-_, arith, _≡_, refl, sym, _∙_, length, needs}
 use Rattle.transfers.specs.Transfers.{laterNone}
 use Rattle.transfers.proofs.Loops.{none-next, none-found, none-end}
 use Rattle.transfers.proofs.later_none.Statement.{statement}
@@ -35,14 +31,4 @@ returns-2 c =
 
 pub later-none-spec : {M : Type 1} → statement M
 later-none-spec =
-    tie.close
-    (tie.spec
-    Inv-loop
-    μ-loop
-    loop-holds
-    (λ c. search needs)
-    returns
-    (λ c. search needs)
-    (λ c. search needs)
-    loop-again
-    returns-2)
+    tie.close (tie.spec Inv-loop μ-loop loop-holds (λ c. search needs) returns (λ c. search needs) (λ c. search needs) loop-again returns-2)

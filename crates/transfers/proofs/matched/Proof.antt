@@ -1,9 +1,5 @@
 -- `transfers::matched` meets its contract. Assumes nothing.
-use Prim.Native.Nat.{_≤_, _-_, _/_}
-use native.Mathlib.Omega.{arith}
-use mathlib.Core.Path.{_≡_, sym, _∙_}
-use lib.ListN.{length, take, drop}
-use borrow.Author.Needs.{needs}
+use Rattle.ground.proofs.Names.{_≤_, _-_, _/_, arith, _≡_, sym, _∙_, length, take, drop, needs}
 use Rattle.bus.specs.Straps.{placeOf}
 use Rattle.transfers.proofs.Loops.{beyond, place-first, place-next, place-found, place-end}
 use Rattle.transfers.proofs.matched.Statement.{statement}
@@ -35,15 +31,4 @@ returns-2 c =
 
 pub matched-spec : {M : Type 1} → statement M
 matched-spec =
-    tie.close
-    (tie.spec
-    Inv-loop
-    μ-loop
-    loop-holds
-    (λ c. search needs)
-    (λ c. search needs)
-    returns
-    (λ c. search needs)
-    (λ c. search needs)
-    loop-again
-    returns-2)
+    tie.close (tie.spec Inv-loop μ-loop loop-holds (λ c. search needs) (λ c. search needs) returns (λ c. search needs) (λ c. search needs) loop-again returns-2)

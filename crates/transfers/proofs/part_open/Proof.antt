@@ -1,6 +1,5 @@
 -- `transfers::part_open` meets its contract. Assumes nothing.
-use borrow.Author.Needs.{needs}
-use Rattle.ground.proofs.Tests.{tests}
+use Rattle.ground.proofs.Names.{needs, tests}
 use Rattle.transfers.proofs.StrapLaws.{part-none}
 use Rattle.transfers.proofs.part_open.Statement.{statement}
 use Rattle.transfers.proofs.part_open.Tie as tie
@@ -16,9 +15,4 @@ returns-3 c = simp (← c .before .refusal .ensures) (search tests)
 
 pub part-open-spec : {M : Type 1} → statement M
 part-open-spec =
-    tie.close
-    (tie.spec
-    returns
-    (λ c κs. search needs)
-    returns-2
-    returns-3)
+    tie.close (tie.spec returns (λ c κs. search needs) returns-2 returns-3)

@@ -1,6 +1,5 @@
 -- `transfers::put_answer` meets its contract. Assumes nothing.
-use Rattle.ground.proofs.Tests.{tests}
-use borrow.Author.Needs.{needs}
+use Rattle.ground.proofs.Names.{tests, needs}
 use Rattle.transfers.proofs.put_answer.Statement.{statement}
 use Rattle.transfers.proofs.put_answer.Tie as tie
 

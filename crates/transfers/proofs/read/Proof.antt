@@ -1,14 +1,8 @@
 -- `transfers::read` meets its contract. Assumes nothing.
-use Rattle.ground.proofs.Tests.{tests}
-use borrow.Author.Needs.{needs}
+use Rattle.ground.proofs.Names.{tests, needs}
 use Rattle.transfers.proofs.read.Statement.{statement}
 use Rattle.transfers.proofs.read.Tie as tie
 
 pub read-spec : {M : Type 1} → statement M
 read-spec =
-    tie.close
-    (tie.spec
-    (λ c. search tests)
-    (λ c. search tests)
-    (λ c κs. search needs)
-    (λ c. simp (c .sent .ensures) (search tests)))
+    tie.close (tie.spec (λ c. search tests) (λ c. search tests) (λ c κs. search needs) (λ c. simp (c .sent .ensures) (search tests)))

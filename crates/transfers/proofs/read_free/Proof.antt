@@ -1,6 +1,5 @@
 -- `transfers::read_free` meets its contract. Assumes nothing.
-use borrow.Author.Needs.{needs}
-use Rattle.ground.proofs.Tests.{tests}
+use Rattle.ground.proofs.Names.{needs, tests}
 use Rattle.transfers.proofs.read_free.Statement.{statement}
 use Rattle.transfers.proofs.read_free.Tie as tie
 

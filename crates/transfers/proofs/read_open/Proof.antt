@@ -1,6 +1,5 @@
 -- `transfers::read_open` meets its contract. Assumes nothing.
-use Rattle.ground.proofs.Tests.{tests}
-use borrow.Author.Needs.{needs}
+use Rattle.ground.proofs.Names.{tests, needs}
 use Rattle.transfers.proofs.read_open.Statement.{statement}
 use Rattle.transfers.proofs.read_open.Tie as tie
 

@@ -1,9 +1,5 @@
 -- `transfers::refusal` meets its contract. Assumes nothing.
-use mathlib.Core.Bool.{true, false}
-use mathlib.Core.Path.{_≡_, refl, sym, _∙_}
-use lib.ListN.{length}
-use borrow.Author.Needs.{needs}
-use borrow.Author.Tests.{not-true, not-false}
+use Rattle.ground.proofs.Names.{true, false, _≡_, refl, sym, _∙_, length, needs, not-true, not-false}
 use Rattle.transfers.proofs.StrapLaws.{early-decides, part-decides, phase-decides, straps-decide}
 use Rattle.transfers.proofs.refusal.Statement.{statement}
 use Rattle.transfers.proofs.refusal.Tie as tie
@@ -34,14 +30,4 @@ returns-6 c =
 
 pub refusal-spec : {M : Type 1} → statement M
 refusal-spec =
-    tie.close
-    (tie.spec
-    returns
-    returns-2
-    returns-3
-    (λ c κs. search needs)
-    (λ c κs. search needs)
-    returns-4
-    (λ c κs. search needs)
-    returns-5
-    returns-6)
+    tie.close (tie.spec returns returns-2 returns-3 (λ c κs. search needs) (λ c κs. search needs) returns-4 (λ c κs. search needs) returns-5 returns-6)

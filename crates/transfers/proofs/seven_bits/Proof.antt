@@ -1,10 +1,5 @@
 -- `transfers::seven_bits` meets its contract. Assumes nothing.
-use Prim.Native.Nat.{_≤_, _-_}
-use native.Mathlib.Omega.{arith}
-use mathlib.Core.Path.{_≡_, refl, sym, _∙_}
-use lib.ListN.{length, getD, take, drop}
-use borrow.Author.Needs.{needs}
-use borrow.Author.Tests.{lt-ltb, le-ltb}
+use Rattle.ground.proofs.Names.{_≤_, _-_, arith, _≡_, refl, sym, _∙_, length, getD, take, drop, needs, lt-ltb, le-ltb}
 use Rattle.bus.specs.Straps.{sevenBits}
 use Rattle.transfers.proofs.Loops.{seven-next, seven-end}
 use Rattle.transfers.proofs.seven_bits.Statement.{statement}
@@ -36,14 +31,4 @@ returns-2 c =
 
 pub seven-bits-spec : {M : Type 1} → statement M
 seven-bits-spec =
-    tie.close
-    (tie.spec
-    Inv-loop
-    μ-loop
-    loop-holds
-    (λ c. search needs)
-    returns
-    (λ c. search needs)
-    (λ c. search needs)
-    loop-again
-    returns-2)
+    tie.close (tie.spec Inv-loop μ-loop loop-holds (λ c. search needs) returns (λ c. search needs) (λ c. search needs) loop-again returns-2)

@@ -1,8 +1,5 @@
 -- `transfers::slave_answer` meets its contract. Assumes nothing.
-use Prim.Native.Nat.{_%_}
-use mathlib.Core.Path.{sym, _∙_}
-use borrow.Author.Needs.{needs}
-use borrow.Author.Tests.{eq-eqb, ne-eqb}
+use Rattle.ground.proofs.Names.{_%_, sym, _∙_, needs, eq-eqb, ne-eqb}
 use Rattle.transfers.proofs.StrapLaws.{slave-named}
 use Rattle.transfers.proofs.slave_answer.Statement.{statement}
 use Rattle.transfers.proofs.slave_answer.Tie as tie
@@ -18,11 +15,4 @@ returns-3 c = c .answered3 .ensures ∙ sym (slave-named (c .before .before .bef
 
 pub slave-answer-spec : {M : Type 1} → statement M
 slave-answer-spec =
-    tie.close
-    (tie.spec
-    (λ c κs. search needs)
-    returns
-    (λ c κs. search needs)
-    returns-2
-    (λ c κs. search needs)
-    returns-3)
+    tie.close (tie.spec (λ c κs. search needs) returns (λ c κs. search needs) returns-2 (λ c κs. search needs) returns-3)

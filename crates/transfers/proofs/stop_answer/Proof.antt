@@ -1,5 +1,5 @@
 -- `transfers::stop_answer` meets its contract. Assumes nothing.
-use borrow.Author.Needs.{needs}
+use Rattle.ground.proofs.Names.{needs}
 use Rattle.transfers.proofs.stop_answer.Statement.{statement}
 use Rattle.transfers.proofs.stop_answer.Tie as tie
 

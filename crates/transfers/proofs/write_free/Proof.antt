@@ -1,8 +1,5 @@
 -- `transfers::write_free` meets its contract. Assumes nothing.
-use mathlib.Core.Path.{_≡_, _∙_, sym}
-use lib.ListN.{length}
-use borrow.Author.Needs.{needs}
-use Rattle.ground.proofs.Tests.{tests}
+use Rattle.ground.proofs.Names.{_≡_, _∙_, sym, length, needs, tests}
 use Rattle.transfers.proofs.StrapLaws.{write-served}
 use Rattle.transfers.proofs.write_free.Statement.{statement}
 use Rattle.transfers.proofs.write_free.Tie as tie
@@ -17,12 +14,4 @@ returns-2 c =
 
 pub write-free-spec : {M : Type 1} → statement M
 write-free-spec =
-    tie.close
-    (tie.spec
-    (λ c κs. search needs)
-    (λ c κs. search needs)
-    returns
-    (λ c κs. search needs)
-    (λ c κs. search needs)
-    (λ c κs. search needs)
-    returns-2)
+    tie.close (tie.spec (λ c κs. search needs) (λ c κs. search needs) returns (λ c κs. search needs) (λ c κs. search needs) (λ c κs. search needs) returns-2)

@@ -1,20 +1,16 @@
 -- `two_wire::max6955_start` has the shape of `Moves.antt`.
 -- Assumes nothing.
-use denote.Triple.Table.{cited}
+use Rattle.lent.proofs.Logic.{cited}
 use Rattle.bus.specs.States.{slave, busOf}
 use Rattle.bus.specs.BusCalls.{start}
 use Rattle.transfers.proofs.BusLaws.{starts}
-use Rattle.lent.proofs.call_refusal.Symbol as number-def
-use Rattle.lent.proofs.call_refusal.Met as number-thm
-use Rattle.transfers.proofs.start_answer.Symbol as answer-def
-use Rattle.transfers.proofs.start_answer.Met as answer-thm
+use Rattle.lent.proofs.call_refusal as number
+use Rattle.transfers.proofs.start_answer as answer
 use Rattle.two_wire.proofs.Moves.{moves-spec}
-use Rattle.two_wire.proofs.max6955_start.Key as key
-use Rattle.two_wire.proofs.max6955_start.Statement.{statement}
-use Rattle.two_wire.proofs.max6955_start.Code as code
+use Rattle.two_wire.proofs.max6955_start as this
 
-pub max6955-start-spec : {M : Type 1} → statement M
-unfolding code.routine
+pub max6955-start-spec : {M : Type 1} → this.Statement.statement M
+unfolding this.Code.routine
 max6955-start-spec 𝓤 H 𝓜 𝓖 𝓡 =
-    moves-spec answer-def.name (busOf slave) start starts 𝓤 H 𝓜 𝓖 𝓡 code.env key.name (code.unfolded 𝓤 H 𝓜 𝓡)
-    (cited 𝓤 H _ 𝓜 𝓡 code.env number-def.name number-def.routine code.calls-lent·call-refusal (number-thm.met 𝓤 H 𝓜 𝓖 𝓡)) (cited 𝓤 H _ 𝓜 𝓡 code.env answer-def.name answer-def.routine code.calls-transfers·start-answer (answer-thm.met 𝓤 H 𝓜 𝓖 𝓡))
+    moves-spec answer.Symbol.name (busOf slave) start starts 𝓤 H 𝓜 𝓖 𝓡 this.Code.env this.Key.name (this.Code.unfolded 𝓤 H 𝓜 𝓡)
+    (cited 𝓤 H _ 𝓜 𝓡 this.Code.env number.Symbol.name number.Symbol.routine this.Code.calls-lent·call-refusal (number.Met.met 𝓤 H 𝓜 𝓖 𝓡)) (cited 𝓤 H _ 𝓜 𝓡 this.Code.env answer.Symbol.name answer.Symbol.routine this.Code.calls-transfers·start-answer (answer.Met.met 𝓤 H 𝓜 𝓖 𝓡))

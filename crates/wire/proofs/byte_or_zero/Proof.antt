@@ -1,8 +1,5 @@
 -- `wire::byte_or_zero` meets its contract. Assumes nothing.
-use native.Mathlib.Omega.{arith}
-use mathlib.Core.Path.{sym}
-use lib.ListN.{List·getD-eq-default}
-use borrow.Author.Needs.{needs}
+use Rattle.ground.proofs.Names.{arith, sym, List·getD-eq-default, needs}
 use Rattle.wire.proofs.byte_or_zero.Statement.{statement}
 use Rattle.wire.proofs.byte_or_zero.Tie as tie
 

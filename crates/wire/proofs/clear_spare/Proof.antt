@@ -1,7 +1,5 @@
 -- `wire::clear_spare` meets its contract, by the laws of the spare bits. Assumes nothing.
-use mathlib.Core.Path.{sym}
-use native.Mathlib.Omega.{arith}
-use borrow.Author.Needs.{needs}
+use Rattle.ground.proofs.Names.{sym, arith, needs}
 use Rattle.wire.proofs.ByteLaws.{none-spare, last-cleared}
 use Rattle.wire.proofs.clear_spare.Statement.{statement}
 use Rattle.wire.proofs.clear_spare.Tie as tie

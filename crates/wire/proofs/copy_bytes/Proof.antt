@@ -1,10 +1,5 @@
 -- `wire::copy_bytes` meets its contract. The invariant: k bytes are copied, and the rest is as it was. Assumes nothing.
-use Prim.Native.Nat.{_-_, _≤_}
-use native.Mathlib.Numerals.{add-one}
-use native.Mathlib.Omega.{arith}
-use mathlib.Core.Path.{_≡_, refl, _∙_}
-use lib.ListN.{length, length-set}
-use lib.Seq.{paste, paste-zero, paste-suc}
+use Rattle.ground.proofs.Names.{_-_, _≤_, add-one, arith, _≡_, refl, _∙_, length, length-set, paste, paste-zero, paste-suc}
 use Rattle.wire.proofs.copy_bytes.Statement.{statement}
 use Rattle.wire.proofs.copy_bytes.Tie as tie
 
@@ -36,15 +31,5 @@ returns c =
 pub copy-bytes-spec : {M : Type 1} → statement M
 copy-bytes-spec =
     tie.close
-    (tie.spec
-    Inv-loop
-    μ-loop
-    loop-holds
-    (λ c. omega arith)
-    (λ c. omega arith)
-    (λ c. omega arith)
-    (λ c. omega arith)
-    (λ c. omega arith)
-    loop-again
-    (λ c. c .before .loop .inv .1)
-    returns)
+    (tie.spec Inv-loop μ-loop loop-holds (λ c. omega arith) (λ c. omega arith) (λ c. omega arith) (λ c. omega arith) (λ c. omega arith) loop-again
+    (λ c. c .before .loop .inv .1) returns)

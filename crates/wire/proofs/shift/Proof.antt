@@ -1,11 +1,5 @@
 -- `wire::shift` meets its contract. Assumes nothing.
-use Prim.Native.Nat.{_≤_}
-use native.Mathlib.Omega.{arith}
-use mathlib.Core.Bool.{true}
-use mathlib.Core.Path.{_≡_, refl, sym, _∙_}
-use lib.ListN.{length}
-use borrow.Author.Tests.{eq-eqb, ne-eqb, le-leb, lt-leb}
-use borrow.Author.Needs.{needs}
+use Rattle.ground.proofs.Names.{_≤_, arith, true, _≡_, refl, sym, _∙_, length, eq-eqb, ne-eqb, le-leb, lt-leb, needs}
 use Rattle.refusals.specs.Refusals.{bytesFor}
 use Rattle.refusals.proofs.RefusalLaws.{size-served as served}
 use Rattle.wire.specs.Shift.{fits}
@@ -51,17 +45,5 @@ returns-5 c = simp (passed (c .before .before .before .before .before .before .b
 pub shift-spec : {M : Type 1} → statement M
 shift-spec =
     tie.close
-    (tie.spec
-    returns
-    returns-2
-    (λ c κs. search needs)
-    returns-3
-    (λ c. search needs)
-    shift-whole-requires
-    shift-part-requires
-    (λ c. search needs)
-    (λ c. search needs)
-    returns-4
-    (λ c. search needs)
-    (λ c. search needs)
-    returns-5)
+    (tie.spec returns returns-2 (λ c κs. search needs) returns-3 (λ c. search needs) shift-whole-requires shift-part-requires (λ c. search needs)
+    (λ c. search needs) returns-4 (λ c. search needs) (λ c. search needs) returns-5)

@@ -1,9 +1,5 @@
 -- `wire::shift_part` meets its contract, by the laws of an access by one line of bytes. Assumes nothing.
-use native.Mathlib.Omega.{arith}
-use mathlib.Core.Path.{_≡_, sym, _∙_}
-use lib.ListN.{length, take, replicate}
-use lib.Seq.{length-take-le}
-use borrow.Author.Needs.{needs}
+use Rattle.ground.proofs.Names.{arith, _≡_, sym, _∙_, length, take, replicate, length-take-le, needs}
 use Rattle.wire.proofs.LineLaws.{bytes-fit}
 use Rattle.wire.proofs.AccessLaws.{line-words, line-answer}
 use Rattle.wire.proofs.shift_part.Statement.{statement}
@@ -27,20 +23,7 @@ returns c =
 pub shift-part-spec : {M : Type 1} → statement M
 shift-part-spec =
     tie.close
-    (tie.spec
-    (λ c. search needs)
-    (λ c. search needs)
-    (λ c. let a = c .before .before .before .before .args in sym (length-take-le (a .n) (a .words .now) (omega arith)))
-    (λ c. search needs)
-    (λ c κs. search needs)
-    (λ c. search needs)
-    (λ c. search needs)
-    (λ c κs. search needs)
-    (λ c. search needs)
-    (λ c κs. search needs)
-    (λ c κs. search needs)
-    (λ c. search needs)
-    (λ c κs. search needs)
-    (λ c. search needs)
-    (λ c. search needs)
-    returns)
+    (tie.spec (λ c. search needs) (λ c. search needs)
+    (λ c. let a = c .before .before .before .before .args in sym (length-take-le (a .n) (a .words .now) (omega arith))) (λ c. search needs)
+    (λ c κs. search needs) (λ c. search needs) (λ c. search needs) (λ c κs. search needs) (λ c. search needs) (λ c κs. search needs) (λ c κs. search needs)
+    (λ c. search needs) (λ c κs. search needs) (λ c. search needs) (λ c. search needs) returns)

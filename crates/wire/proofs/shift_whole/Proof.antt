@@ -1,9 +1,5 @@
 -- `wire::shift_whole` meets its contract, by the laws of an access by whole words. Assumes nothing.
-use native.Mathlib.Omega.{arith}
-use mathlib.Core.Path.{_≡_, sym, _∙_}
-use lib.ListN.{length, take}
-use lib.Seq.{length-take-le}
-use borrow.Author.Needs.{needs}
+use Rattle.ground.proofs.Names.{arith, _≡_, sym, _∙_, length, take, length-take-le, needs}
 use Rattle.wire.proofs.LineLaws.{bytes-fit}
 use Rattle.wire.proofs.AccessLaws.{sent-words, whole-answer}
 use Rattle.wire.proofs.shift_whole.Statement.{statement}
@@ -26,19 +22,7 @@ returns c =
 pub shift-whole-spec : {M : Type 1} → statement M
 shift-whole-spec =
     tie.close
-    (tie.spec
-    (λ c. search needs)
-    (λ c. search needs)
-    (λ c. let a = c .before .before .before .before .args in sym (length-take-le (a .n) (a .words .now) (omega arith)))
-    (λ c κs. search needs)
-    (λ c. search needs)
-    (λ c. search needs)
-    (λ c. search needs)
-    (λ c κs. search needs)
-    (λ c κs. search needs)
-    (λ c. search needs)
-    (λ c. search needs)
-    (λ c κs. search needs)
-    (λ c. search needs)
-    (λ c. search needs)
-    returns)
+    (tie.spec (λ c. search needs) (λ c. search needs)
+    (λ c. let a = c .before .before .before .before .args in sym (length-take-le (a .n) (a .words .now) (omega arith))) (λ c κs. search needs)
+    (λ c. search needs) (λ c. search needs) (λ c. search needs) (λ c κs. search needs) (λ c κs. search needs) (λ c. search needs) (λ c. search needs)
+    (λ c κs. search needs) (λ c. search needs) (λ c. search needs) returns)

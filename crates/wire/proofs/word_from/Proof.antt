@@ -1,6 +1,5 @@
 -- `wire::word_from` meets its contract, by the law `window-at`. Assumes nothing.
-use mathlib.Core.Path.{sym, ap, _∙_}
-use borrow.Author.Needs.{needs}
+use Rattle.ground.proofs.Names.{sym, ap, _∙_, needs}
 use Rattle.wire.specs.Bits.{value}
 use Rattle.wire.proofs.ByteLaws.{window-at}
 use Rattle.wire.proofs.word_from.Statement.{statement}
@@ -14,12 +13,5 @@ returns c =
 pub word-from-spec : {M : Type 1} → statement M
 word-from-spec =
     tie.close
-    (tie.spec
-    (λ c. search needs)
-    (λ c κs. search needs)
-    (λ c. search needs)
-    (λ c. search needs)
-    (λ c. search needs)
-    (λ c. search needs)
-    (λ c κs. search needs)
+    (tie.spec (λ c. search needs) (λ c κs. search needs) (λ c. search needs) (λ c. search needs) (λ c. search needs) (λ c. search needs) (λ c κs. search needs)
     returns)

@@ -1,11 +1,5 @@
 -- `wire::write_bytes` meets its contract. The invariant: the bytes of the last j words are written, and the rest is as it was. Assumes nothing.
-use Prim.Native.Nat.{_-_, _*_, _≤_}
-use native.Mathlib.Omega.{arith}
-use mathlib.Core.List.{_++_}
-use mathlib.Core.Path.{_≡_, refl, _∙_}
-use lib.ListN.{length, drop, length-set}
-use borrow.Author.Needs.{needs}
-use borrow.Author.Tests.{lt-ltb, le-ltb}
+use Rattle.ground.proofs.Names.{_-_, _*_, _≤_, arith, _++_, _≡_, refl, _∙_, length, drop, length-set, needs, lt-ltb, le-ltb}
 use Rattle.wire.specs.Line.{wordBytes}
 use Rattle.wire.proofs.LineLaws.{bytes-none, bytes-more}
 use Rattle.wire.proofs.write_bytes.Statement.{statement}
@@ -38,24 +32,7 @@ returns-2 c =
 pub write-bytes-spec : {M : Type 1} → statement M
 write-bytes-spec =
     tie.close
-    (tie.spec
-    Inv-loop
-    μ-loop
-    (λ c. let a = c .before .args in rw (lt-ltb (length (a .room .now)) (2 * length (a .words .now)) (omega arith)))
-    (λ c. (omega arith, refl, bytes-none (c .before .args .words .now) _))
-    (λ c. search needs)
-    (λ c. search needs)
-    (λ c. search needs)
-    (λ c. search needs)
-    cast-room
-    (λ c. search needs)
-    (λ c. search needs)
-    (λ c. search needs)
-    (λ c. search needs)
-    (λ c. search needs)
-    (λ c. simp length-set (omega arith))
-    (λ c. search needs)
-    (λ c. search needs)
-    loop-again
-    (λ c. c .before .loop .inv .1)
-    returns-2)
+    (tie.spec Inv-loop μ-loop (λ c. let a = c .before .args in rw (lt-ltb (length (a .room .now)) (2 * length (a .words .now)) (omega arith)))
+    (λ c. (omega arith, refl, bytes-none (c .before .args .words .now) _)) (λ c. search needs) (λ c. search needs) (λ c. search needs) (λ c. search needs)
+    cast-room (λ c. search needs) (λ c. search needs) (λ c. search needs) (λ c. search needs) (λ c. search needs) (λ c. simp length-set (omega arith))
+    (λ c. search needs) (λ c. search needs) loop-again (λ c. c .before .loop .inv .1) returns-2)

@@ -1,9 +1,5 @@
 -- `wire::write_words` meets its contract. The invariant: i words are written, and the rest is as it was. Assumes nothing.
-use Prim.Native.Nat.{_-_}
-use native.Mathlib.Omega.{arith}
-use mathlib.Core.Path.{_∙_}
-use lib.ListN.{drop}
-use Rattle.ground.proofs.Filled.{Filled, filled-start, filled-more, filled-all}
+use Rattle.ground.proofs.Names.{_-_, arith, _∙_, drop, Filled, filled-start, filled-more, filled-all}
 use Rattle.wire.specs.Bits.{unpack, wordAt}
 use Rattle.wire.specs.Wire.{words}
 use Rattle.wire.proofs.BitLaws.{word-drop}
@@ -29,19 +25,5 @@ returns c = filled-all (c .before .loop .inv) (omega arith)
 pub write-words-spec : {M : Type 1} → statement M
 write-words-spec =
     tie.close
-    (tie.spec
-    Inv-loop
-    μ-loop
-    (λ c. filled-start)
-    (λ c. omega arith)
-    (λ c. omega arith)
-    (λ c. omega arith)
-    (λ c. omega arith)
-    (λ c κs. omega arith)
-    (λ c. omega arith)
-    (λ c. omega arith)
-    (λ c. omega arith)
-    (λ c. omega arith)
-    loop-again
-    (λ c. c .before .loop .inv .size)
-    returns)
+    (tie.spec Inv-loop μ-loop (λ c. filled-start) (λ c. omega arith) (λ c. omega arith) (λ c. omega arith) (λ c. omega arith) (λ c κs. omega arith)
+    (λ c. omega arith) (λ c. omega arith) (λ c. omega arith) (λ c. omega arith) loop-again (λ c. c .before .loop .inv .size) returns)

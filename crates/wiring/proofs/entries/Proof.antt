@@ -1,11 +1,5 @@
 -- `wiring::entries` meets its contract. The invariant: p entries are copied, and the rest is as it was. Assumes nothing.
-use Prim.Native.Nat.{_+_, _-_}
-use native.Mathlib.Omega.{arith}
-use mathlib.Core.List.{append-nil}
-use mathlib.Core.Path.{refl, _∙_}
-use lib.ListN.{getD}
-use borrow.Author.Needs.{needs}
-use Rattle.ground.proofs.Filled.{Filled, filled-start, filled-more, filled-all}
+use Rattle.ground.proofs.Names.{_+_, _-_, arith, append-nil, refl, _∙_, getD, needs, Filled, filled-start, filled-more, filled-all}
 use Rattle.wiring.proofs.entries.Statement.{statement}
 use Rattle.wiring.proofs.entries.Tie as tie
 
@@ -18,14 +12,5 @@ abbrev μ-loop : tie.MeasureT-loop
 pub entries-spec : {M : Type 1} → statement M
 entries-spec =
     tie.close
-    (tie.spec
-    Inv-loop
-    μ-loop
-    (λ c. filled-start)
-    (λ c. omega arith)
-    (λ c. omega arith)
-    (λ c. search needs)
-    (λ c. search needs)
-    (λ c. omega arith)
-    (λ c. filled-more _ (c .before .loop .inv) (omega arith) (omega arith) refl)
-    (λ c. filled-all (c .before .loop .inv) (omega arith) ∙ append-nil _))
+    (tie.spec Inv-loop μ-loop (λ c. filled-start) (λ c. omega arith) (λ c. omega arith) (λ c. search needs) (λ c. search needs) (λ c. omega arith)
+    (λ c. filled-more _ (c .before .loop .inv) (omega arith) (omega arith) refl) (λ c. filled-all (c .before .loop .inv) (omega arith) ∙ append-nil _))

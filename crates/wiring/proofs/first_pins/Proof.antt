@@ -1,5 +1,5 @@
 -- `wiring::first_pins` meets its contract. Assumes nothing.
-use borrow.Author.Needs.{needs}
+use Rattle.ground.proofs.Names.{needs}
 use Rattle.wiring.proofs.first_pins.Statement.{statement}
 use Rattle.wiring.proofs.first_pins.Tie as tie
 
@@ -9,11 +9,4 @@ returns c = simp (c .before .before .before .six-pins .ensures, c .before .befor
 pub first-pins-spec : {M : Type 1} → statement M
 first-pins-spec =
     tie.close
-    (tie.spec
-    (λ c κs. search needs)
-    (λ c κs. search needs)
-    (λ c. search needs)
-    (λ c. search needs)
-    (λ c κs. search needs)
-    (λ c κs. search needs)
-    returns)
+    (tie.spec (λ c κs. search needs) (λ c κs. search needs) (λ c. search needs) (λ c. search needs) (λ c κs. search needs) (λ c κs. search needs) returns)

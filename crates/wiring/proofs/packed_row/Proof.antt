@@ -1,7 +1,6 @@
 -- `wiring::packed_row` meets its contract. Assumes nothing.
-use native.Mathlib.Omega.{arith}
+use Rattle.ground.proofs.Names.{arith, needs}
 use Rattle.wiring.proofs.Packing.{packed-row, no-row-packed}
-use borrow.Author.Needs.{needs}
 use Rattle.wiring.proofs.packed_row.Statement.{statement}
 use Rattle.wiring.proofs.packed_row.Tie as tie
 

@@ -1,5 +1,5 @@
 -- `wiring::six_pins` meets its contract. Assumes nothing.
-use borrow.Author.Needs.{needs}
+use Rattle.ground.proofs.Names.{needs}
 use Rattle.wiring.proofs.six_pins.Statement.{statement}
 use Rattle.wiring.proofs.six_pins.Tie as tie
 

@@ -1,8 +1,6 @@
 -- `wiring::wires` meets its contract. Assumes nothing.
-use mathlib.Core.Path.{_∙_}
-use Rattle.ground.specs.Lists.{tabulate}
+use Rattle.ground.proofs.Names.{_∙_, tabulate, needs}
 use Rattle.wiring.proofs.Wired.{wired-row, no-row}
-use borrow.Author.Needs.{needs}
 use Rattle.wiring.proofs.wires.Statement.{statement}
 use Rattle.wiring.proofs.wires.Tie as tie
 
@@ -15,12 +13,4 @@ returns-2 c = no-row (c .before .args .display) _ (c .if1 .left)
 
 pub wires-spec : {M : Type 1} → statement M
 wires-spec =
-    tie.close
-    (tie.spec
-    (λ c κs. search needs)
-    (λ c. search needs)
-    (λ c. search needs)
-    (λ c. search needs)
-    (λ c κs. search needs)
-    returns
-    returns-2)
+    tie.close (tie.spec (λ c κs. search needs) (λ c. search needs) (λ c. search needs) (λ c. search needs) (λ c κs. search needs) returns returns-2)

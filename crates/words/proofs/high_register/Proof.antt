@@ -1,5 +1,5 @@
 -- `words::high_register` meets its contract. Assumes nothing.
-use Rattle.ground.proofs.Tests.{tests}
+use Rattle.ground.proofs.Names.{tests}
 use Rattle.words.proofs.high_register.Statement.{statement}
 use Rattle.words.proofs.high_register.Tie as tie
 

@@ -1,5 +1,5 @@
 -- `device::Device::answered` meets its contract. Assumes nothing.
-use borrow.Author.Needs.{needs}
+use Rattle.ground.proofs.Names.{needs}
 use Rattle.device.proofs.Device.answered.Statement.{statement}
 use Rattle.device.proofs.Device.answered.Tie as tie
 
@@ -9,11 +9,4 @@ returns c = simp (c .before .before .before .before .before .read .ensures, c .b
 pub answered-spec : {M : Type 1} → statement M
 answered-spec =
     tie.close
-    (tie.spec
-    (λ c κs. search needs)
-    (λ c κs. search needs)
-    (λ c κs. search needs)
-    (λ c κs. search needs)
-    (λ c κs. search needs)
-    (λ c κs. search needs)
-    returns)
+    (tie.spec (λ c κs. search needs) (λ c κs. search needs) (λ c κs. search needs) (λ c κs. search needs) (λ c κs. search needs) (λ c κs. search needs) returns)

@@ -1,5 +1,5 @@
 -- `device::Device::clocked` meets its contract. Assumes nothing.
-use borrow.Author.Needs.{needs}
+use Rattle.ground.proofs.Names.{needs}
 use Rattle.device.proofs.Device.clocked.Statement.{statement}
 use Rattle.device.proofs.Device.clocked.Tie as tie
 

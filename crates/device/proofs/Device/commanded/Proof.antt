@@ -1,6 +1,6 @@
 -- `device::Device::commanded` meets its contract. Assumes nothing.
 use Rattle.device.specs.TwoWire.{commanded}
-use borrow.Author.Needs.{needs}
+use Rattle.ground.proofs.Names.{needs}
 use Rattle.device.proofs.Device.commanded.Statement.{statement}
 use Rattle.device.proofs.Device.commanded.Tie as tie
 

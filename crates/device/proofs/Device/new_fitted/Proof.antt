@@ -1,5 +1,5 @@
 -- `device::Device::new_fitted` meets its contract. Assumes nothing.
-use borrow.Author.Needs.{needs}
+use Rattle.ground.proofs.Names.{needs}
 use Rattle.device.proofs.Device.new_fitted.Statement.{statement}
 use Rattle.device.proofs.Device.new_fitted.Tie as tie
 

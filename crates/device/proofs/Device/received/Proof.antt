@@ -1,6 +1,6 @@
 -- `device::Device::received` meets its contract. Assumes nothing.
 use Rattle.device.specs.TwoWire.{received}
-use borrow.Author.Needs.{needs}
+use Rattle.ground.proofs.Names.{needs}
 use Rattle.device.proofs.Device.received.Statement.{statement}
 use Rattle.device.proofs.Device.received.Tie as tie
 

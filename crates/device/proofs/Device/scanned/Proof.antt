@@ -1,5 +1,5 @@
 -- `device::Device::scanned` meets its contract. Assumes nothing.
-use borrow.Author.Needs.{needs}
+use Rattle.ground.proofs.Names.{needs}
 use Rattle.device.proofs.Device.scanned.Statement.{statement}
 use Rattle.device.proofs.Device.scanned.Tie as tie
 

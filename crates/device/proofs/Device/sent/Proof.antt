@@ -1,6 +1,6 @@
 -- `device::Device::sent` meets its contract. Assumes nothing.
 use Rattle.device.specs.TwoWire.{sent}
-use borrow.Author.Needs.{needs}
+use Rattle.ground.proofs.Names.{needs}
 use Rattle.device.proofs.Device.sent.Statement.{statement}
 use Rattle.device.proofs.Device.sent.Tie as tie
 

@@ -1,6 +1,6 @@
 -- `device::Device::sent_data` meets its contract. Assumes nothing.
 use Rattle.device.specs.TwoWire.{sentData}
-use borrow.Author.Needs.{needs}
+use Rattle.ground.proofs.Names.{needs}
 use Rattle.device.proofs.Device.sent_data.Statement.{statement}
 use Rattle.device.proofs.Device.sent_data.Tie as tie
 

@@ -1,6 +1,6 @@
 -- `device::Device::taken` meets its contract. Assumes nothing.
 use Rattle.device.specs.Taken.{taken}
-use borrow.Author.Needs.{needs}
+use Rattle.ground.proofs.Names.{needs}
 use Rattle.device.proofs.Device.taken.Statement.{statement}
 use Rattle.device.proofs.Device.taken.Tie as tie
 
@@ -15,12 +15,5 @@ returns-2 c = simp (c .before .before .before .before .before .with-shift .ensur
 pub taken-spec : {M : Type 1} → statement M
 taken-spec =
     tie.close
-    (tie.spec
-    (λ c κs. search needs)
-    (λ c κs. search needs)
-    (λ c. search needs)
-    (λ c κs. search needs)
-    (λ c. search needs)
-    (λ c κs. search needs)
-    returns
+    (tie.spec (λ c κs. search needs) (λ c κs. search needs) (λ c. search needs) (λ c κs. search needs) (λ c. search needs) (λ c κs. search needs) returns
     returns-2)

@@ -1,5 +1,5 @@
 -- `device::Device::written` meets its contract. Assumes nothing.
-use borrow.Author.Needs.{needs}
+use Rattle.ground.proofs.Names.{needs}
 use Rattle.device.proofs.Device.written.Statement.{statement}
 use Rattle.device.proofs.Device.written.Tie as tie
 

@@ -1,5 +1,5 @@
 -- `digits::Planes::both_written` meets its contract. Assumes nothing.
-use borrow.Author.Needs.{needs}
+use Rattle.ground.proofs.Names.{needs}
 use Rattle.digits.proofs.Planes.both_written.Statement.{statement}
 use Rattle.digits.proofs.Planes.both_written.Tie as tie
 

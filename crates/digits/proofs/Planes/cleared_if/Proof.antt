@@ -1,5 +1,5 @@
 -- `digits::Planes::cleared_if` meets its contract. Assumes nothing.
-use borrow.Author.Needs.{needs}
+use Rattle.ground.proofs.Names.{needs}
 use Rattle.digits.proofs.Planes.cleared_if.Statement.{statement}
 use Rattle.digits.proofs.Planes.cleared_if.Tie as tie
 

@@ -1,6 +1,5 @@
 -- `digits::Planes::digit` meets its contract. Assumes nothing.
-use Rattle.ground.proofs.Tests.{tests}
-use borrow.Author.Needs.{needs}
+use Rattle.ground.proofs.Names.{tests, needs}
 use Rattle.digits.proofs.Planes.digit.Statement.{statement}
 use Rattle.digits.proofs.Planes.digit.Tie as tie
 

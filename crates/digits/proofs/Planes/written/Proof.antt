@@ -1,6 +1,5 @@
 -- `digits::Planes::written` meets its contract. Assumes nothing.
-use Rattle.ground.proofs.Tests.{tests}
-use borrow.Author.Needs.{needs}
+use Rattle.ground.proofs.Names.{tests, needs}
 use Rattle.digits.proofs.Planes.written.Statement.{statement}
 use Rattle.digits.proofs.Planes.written.Tie as tie
 

@@ -1,5 +1,5 @@
 -- `keys::Keys::masked` meets its contract. Assumes nothing.
-use borrow.Author.Needs.{needs}
+use Rattle.ground.proofs.Names.{needs}
 use Rattle.keys.proofs.Keys.masked.Statement.{statement}
 use Rattle.keys.proofs.Keys.masked.Tie as tie
 

@@ -1,5 +1,5 @@
 -- `keys::Keys::packed` meets its contract. Assumes nothing.
-use borrow.Author.Needs.{needs}
+use Rattle.ground.proofs.Names.{needs}
 use Rattle.keys.proofs.Keys.packed.Statement.{statement}
 use Rattle.keys.proofs.Keys.packed.Tie as tie
 

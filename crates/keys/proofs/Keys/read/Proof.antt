@@ -1,5 +1,5 @@
 -- `keys::Keys::read` meets its contract. Assumes nothing.
-use borrow.Author.Needs.{needs}
+use Rattle.ground.proofs.Names.{needs}
 use Rattle.keys.proofs.Keys.read.Statement.{statement}
 use Rattle.keys.proofs.Keys.read.Tie as tie
 

@@ -1,13 +1,11 @@
 -- `keys::Keys::scanned` meets its contract. Assumes nothing.
-use Prim.Native.Nat.{ℕ, _<_}
-use mathlib.Core.List.{List}
+use Rattle.ground.proofs.Names.{ℕ, _<_, List, needs}
 use mir.Val.{Val}
 use denote.Shadow.{shadow}
 use Rattle.keys.specs.declared.Group.{Group}
 use Rattle.keys.proofs.Group.{the-type, the-field}
 use Rattle.keys.proofs.Bytewise.{at-places}
 use Rattle.keys.proofs.Together.{Bytes, four, scanned-packed}
-use borrow.Author.Needs.{needs}
 use Rattle.keys.proofs.Keys.scanned.Statement.{statement}
 use Rattle.keys.proofs.Keys.scanned.Tie as tie
 
@@ -34,12 +32,5 @@ returns c =
 pub scanned-spec : {M : Type 1} → statement M
 scanned-spec =
     tie.close
-    (tie.spec
-    (λ c κs. search needs)
-    (λ c κs. search needs)
-    (λ c κs. search needs)
-    (λ c κs. search needs)
-    (λ c κs. search needs)
-    (λ c κs. search needs)
-    (λ c κs. search needs)
-    returns)
+    (tie.spec (λ c κs. search needs) (λ c κs. search needs) (λ c κs. search needs) (λ c κs. search needs) (λ c κs. search needs) (λ c κs. search needs)
+    (λ c κs. search needs) returns)

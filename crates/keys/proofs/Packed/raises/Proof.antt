@@ -1,5 +1,5 @@
 -- `keys::Packed::raises` meets its contract. Assumes nothing.
-use borrow.Author.Needs.{needs}
+use Rattle.ground.proofs.Names.{needs}
 use Rattle.keys.proofs.Packed.raises.Statement.{statement}
 use Rattle.keys.proofs.Packed.raises.Tie as tie
 

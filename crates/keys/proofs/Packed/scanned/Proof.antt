@@ -1,5 +1,5 @@
 -- `keys::Packed::scanned` meets its contract. Assumes nothing.
-use borrow.Author.Needs.{needs}
+use Rattle.ground.proofs.Names.{needs}
 use Rattle.keys.proofs.Packed.scanned.Statement.{statement}
 use Rattle.keys.proofs.Packed.scanned.Tie as tie
 

@@ -1,5 +1,5 @@
 -- `keys::Packed::unpacked` meets its contract. Assumes nothing.
-use borrow.Author.Needs.{needs}
+use Rattle.ground.proofs.Names.{needs}
 use Rattle.keys.proofs.Packed.unpacked.Statement.{statement}
 use Rattle.keys.proofs.Packed.unpacked.Tie as tie
 

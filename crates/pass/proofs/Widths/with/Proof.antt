@@ -1,5 +1,5 @@
 -- `pass::Widths::with` meets its contract. Assumes nothing.
-use borrow.Author.Needs.{needs}
+use Rattle.ground.proofs.Names.{needs}
 use Rattle.pass.proofs.Widths.with.Statement.{statement}
 use Rattle.pass.proofs.Widths.with.Tie as tie
 

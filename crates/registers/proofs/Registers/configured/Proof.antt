@@ -1,5 +1,5 @@
 -- `registers::Registers::configured` meets its contract. Assumes nothing.
-use borrow.Author.Needs.{needs}
+use Rattle.ground.proofs.Names.{needs}
 use Rattle.registers.proofs.Registers.configured.Statement.{statement}
 use Rattle.registers.proofs.Registers.configured.Tie as tie
 

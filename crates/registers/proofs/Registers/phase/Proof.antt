@@ -1,5 +1,5 @@
 -- `registers::Registers::phase` meets its contract. Assumes nothing.
-use borrow.Author.Needs.{needs}
+use Rattle.ground.proofs.Names.{needs}
 use Rattle.registers.proofs.Registers.phase.Statement.{statement}
 use Rattle.registers.proofs.Registers.phase.Tie as tie
 

@@ -1,5 +1,5 @@
 -- `registers::Registers::read_data` meets its contract. Assumes nothing.
-use borrow.Author.Needs.{needs}
+use Rattle.ground.proofs.Names.{needs}
 use Rattle.registers.proofs.Registers.read_data.Statement.{statement}
 use Rattle.registers.proofs.Registers.read_data.Tie as tie
 
@@ -24,32 +24,8 @@ returns-8 c = simp (c .before .before .register5 .given .1, c .digit .ensures)
 pub read-data-spec : {M : Type 1} → statement M
 read-data-spec =
     tie.close
-    (tie.spec
-    (λ c. search needs)
-    (λ c. search needs)
-    (λ c κs. search needs)
-    (λ c κs. search needs)
-    (λ c. search needs)
-    (λ c κs. search needs)
-    (λ c κs. search needs)
-    (λ c. search needs)
-    (λ c. search needs)
-    (λ c κs. search needs)
-    (λ c. search needs)
-    (λ c κs. search needs)
-    (λ c. search needs)
-    (λ c κs. search needs)
-    (λ c. search needs)
-    (λ c κs. search needs)
-    (λ c. search needs)
-    (λ c. search needs)
-    (λ c. simp (c .enum-told .given .1))
-    returns-2
-    returns-3
-    (λ c. simp (c .enum-told3 .given .1))
-    returns-5
-    returns-6
-    returns-7
-    returns-8
-    (λ c. simp (c .enum-told4 .given .1))
+    (tie.spec (λ c. search needs) (λ c. search needs) (λ c κs. search needs) (λ c κs. search needs) (λ c. search needs) (λ c κs. search needs)
+    (λ c κs. search needs) (λ c. search needs) (λ c. search needs) (λ c κs. search needs) (λ c. search needs) (λ c κs. search needs) (λ c. search needs)
+    (λ c κs. search needs) (λ c. search needs) (λ c κs. search needs) (λ c. search needs) (λ c. search needs) (λ c. simp (c .enum-told .given .1)) returns-2
+    returns-3 (λ c. simp (c .enum-told3 .given .1)) returns-5 returns-6 returns-7 returns-8 (λ c. simp (c .enum-told4 .given .1))
     (λ c. simp (c .enum-told5 .given .1)))

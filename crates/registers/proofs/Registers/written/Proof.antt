@@ -1,5 +1,5 @@
 -- `registers::Registers::written` meets its contract. Assumes nothing.
-use borrow.Author.Needs.{needs}
+use Rattle.ground.proofs.Names.{needs}
 use Rattle.registers.proofs.Registers.written.Statement.{statement}
 use Rattle.registers.proofs.Registers.written.Tie as tie
 
@@ -24,35 +24,8 @@ returns-9 c = simp (c .before .before .before .register5 .given .1, c .before .b
 pub written-spec : {M : Type 1} → statement M
 written-spec =
     tie.close
-    (tie.spec
-    (λ c. search needs)
-    (λ c. search needs)
-    (λ c κs. search needs)
-    (λ c κs. search needs)
-    (λ c. search needs)
-    (λ c κs. search needs)
-    (λ c. search needs)
-    (λ c κs. search needs)
-    (λ c κs. search needs)
-    (λ c. search needs)
-    (λ c. search needs)
-    (λ c. search needs)
-    (λ c κs. search needs)
-    (λ c κs. search needs)
-    (λ c. search needs)
-    (λ c κs. search needs)
-    (λ c κs. search needs)
-    (λ c. search needs)
-    (λ c κs. search needs)
-    (λ c κs. search needs)
-    (λ c. search needs)
-    (λ c. simp (c .enum-told .given .1))
-    returns-2
-    returns-3
-    returns-4
-    (λ c. simp (c .enum-told3 .given .1))
-    (λ c. simp (c .enum-told4 .given .1))
-    returns-7
-    returns-8
-    returns-9
-    (λ c. simp (c .enum-told5 .given .1)))
+    (tie.spec (λ c. search needs) (λ c. search needs) (λ c κs. search needs) (λ c κs. search needs) (λ c. search needs) (λ c κs. search needs)
+    (λ c. search needs) (λ c κs. search needs) (λ c κs. search needs) (λ c. search needs) (λ c. search needs) (λ c. search needs) (λ c κs. search needs)
+    (λ c κs. search needs) (λ c. search needs) (λ c κs. search needs) (λ c κs. search needs) (λ c. search needs) (λ c κs. search needs) (λ c κs. search needs)
+    (λ c. search needs) (λ c. simp (c .enum-told .given .1)) returns-2 returns-3 returns-4 (λ c. simp (c .enum-told3 .given .1))
+    (λ c. simp (c .enum-told4 .given .1)) returns-7 returns-8 returns-9 (λ c. simp (c .enum-told5 .given .1)))

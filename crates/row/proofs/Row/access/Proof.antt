@@ -1,6 +1,5 @@
 -- `row::Row::access` meets its contract. Assumes nothing.
-use mathlib.Core.Path.{_≡_, _∙_}
-use borrow.Author.Needs.{needs}
+use Rattle.ground.proofs.Names.{_≡_, _∙_, needs}
 use Rattle.calls.specs.Calls.{access}
 use Rattle.row.specs.Row.{numberOn}
 use Rattle.row.proofs.RowLaws.{access-found, access-refused, access-done}
@@ -32,15 +31,5 @@ returns-2 c =
 pub access-spec : {M : Type 1} → statement M
 access-spec =
     tie.close
-    (tie.spec
-    (λ c κs. search needs)
-    (λ c κs. search needs)
-    (λ c κs. search needs)
-    (λ c κs. search needs)
-    returns
-    (λ c κs. search needs)
-    (λ c. search needs)
-    (λ c κs. search needs)
-    (λ c κs. search needs)
-    (λ c. search needs)
-    returns-2)
+    (tie.spec (λ c κs. search needs) (λ c κs. search needs) (λ c κs. search needs) (λ c κs. search needs) returns (λ c κs. search needs) (λ c. search needs)
+    (λ c κs. search needs) (λ c κs. search needs) (λ c. search needs) returns-2)

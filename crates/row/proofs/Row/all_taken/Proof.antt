@@ -1,10 +1,5 @@
 -- `row::Row::all_taken` meets its contract. The invariant: the first i records took their words. Assumes nothing.
-use Prim.Native.Nat.{_-_, _<_}
-use native.Mathlib.Omega.{arith}
-use mathlib.Core.Path.{_≡_, refl}
-use lib.ListN.{length, getD}
-use borrow.Author.Needs.{needs}
-use Rattle.ground.proofs.Filled.{Filled, filled-start, filled-more, filled-rest, filled-all}
+use Rattle.ground.proofs.Names.{_-_, _<_, arith, _≡_, refl, length, getD, needs, Filled, filled-start, filled-more, filled-rest, filled-all}
 use Rattle.device.specs.PowerUp.{powerUp}
 use Rattle.device.specs.Taken.{taken}
 use Rattle.row.proofs.Typed.{sixteen, default}
@@ -32,18 +27,5 @@ returns c = let l = c .before .loop in rw (← l .inv .0, ← filled-all (l .inv
 pub all-taken-spec : {M : Type 1} → statement M
 all-taken-spec =
     tie.close
-    (tie.spec
-    Inv-loop
-    μ-loop
-    (λ c. (refl, filled-start))
-    (λ c. search needs)
-    (λ c. search needs)
-    (λ c. search needs)
-    (λ c. search needs)
-    (λ c κs. search needs)
-    (λ c. search needs)
-    (λ c. search needs)
-    (λ c. search needs)
-    (λ c. omega arith)
-    loop-again
-    returns)
+    (tie.spec Inv-loop μ-loop (λ c. (refl, filled-start)) (λ c. search needs) (λ c. search needs) (λ c. search needs) (λ c. search needs) (λ c κs. search needs)
+    (λ c. search needs) (λ c. search needs) (λ c. search needs) (λ c. omega arith) loop-again returns)

@@ -1,7 +1,5 @@
 -- `row::Row::found` meets its contract. Assumes nothing.
-use native.Mathlib.Omega.{arith}
-use mathlib.Core.Path.{_∙_}
-use borrow.Author.Needs.{needs}
+use Rattle.ground.proofs.Names.{arith, _∙_, needs}
 use Rattle.pass.proofs.FoundLaws.{pass-le}
 use Rattle.row.proofs.RowLaws.{number-found}
 use Rattle.row.proofs.Row.found.Statement.{statement}

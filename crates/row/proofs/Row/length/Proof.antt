@@ -1,5 +1,5 @@
 -- `row::Row::length` meets its contract. Assumes nothing.
-use native.Mathlib.Omega.{arith}
+use Rattle.ground.proofs.Names.{arith}
 use Rattle.row.proofs.Typed.{sixteen}
 use Rattle.row.proofs.RowLaws.{length-short, length-long}
 use Rattle.row.proofs.Row.length.Statement.{statement}

@@ -1,7 +1,5 @@
 -- `row::Row::named` meets its contract. Assumes nothing.
-use Prim.Native.Nat.{_-_}
-use native.Mathlib.Omega.{arith}
-use borrow.Author.Needs.{needs}
+use Rattle.ground.proofs.Names.{_-_, arith, needs}
 use Rattle.device.specs.PowerUp.{powerUp}
 use Rattle.row.proofs.Typed.{sixteen, default}
 use Rattle.row.proofs.Row.named.Statement.{statement}

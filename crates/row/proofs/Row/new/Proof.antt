@@ -1,5 +1,5 @@
 -- `row::Row::new` meets its contract. Assumes nothing.
-use borrow.Author.Needs.{needs}
+use Rattle.ground.proofs.Names.{needs}
 use Rattle.row.proofs.Row.new.Statement.{statement}
 use Rattle.row.proofs.Row.new.Tie as tie
 

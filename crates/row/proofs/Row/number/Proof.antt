@@ -1,6 +1,5 @@
 -- `row::Row::number` meets its contract. Assumes nothing.
-use mathlib.Core.Path.{_≡_, _∙_}
-use borrow.Author.Needs.{needs}
+use Rattle.ground.proofs.Names.{_≡_, _∙_, needs}
 use Rattle.pass.specs.Found.{callRefusal}
 use Rattle.row.specs.Row.{records}
 use Rattle.row.proofs.Typed.{sixteen}

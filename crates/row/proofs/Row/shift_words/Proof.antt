@@ -1,9 +1,5 @@
 -- `row::Row::shift_words` meets its contract. The invariant: the words of the first i records. Assumes nothing.
-use Prim.Native.Nat.{_-_, _<_}
-use native.Mathlib.Omega.{arith}
-use lib.ListN.{length, getD}
-use borrow.Author.Needs.{needs}
-use Rattle.ground.proofs.Filled.{Filled, filled-start, filled-more, filled-all}
+use Rattle.ground.proofs.Names.{_-_, _<_, arith, length, getD, needs, Filled, filled-start, filled-more, filled-all}
 use Rattle.device.specs.PowerUp.{powerUp}
 use Rattle.row.proofs.Typed.{sixteen, default}
 use Rattle.row.proofs.Row.shift_words.Statement.{statement}
@@ -26,15 +22,5 @@ loop-again c =
 pub shift-words-spec : {M : Type 1} → statement M
 shift-words-spec =
     tie.close
-    (tie.spec
-    Inv-loop
-    μ-loop
-    (λ c. filled-start)
-    (λ c. search needs)
-    (λ c. search needs)
-    (λ c. search needs)
-    (λ c. search needs)
-    (λ c. search needs)
-    (λ c. omega arith)
-    loop-again
-    (λ c. filled-all (c .before .loop .inv) (omega arith)))
+    (tie.spec Inv-loop μ-loop (λ c. filled-start) (λ c. search needs) (λ c. search needs) (λ c. search needs) (λ c. search needs) (λ c. search needs)
+    (λ c. omega arith) loop-again (λ c. filled-all (c .before .loop .inv) (omega arith)))

@@ -1,5 +1,5 @@
 -- `row::Row::show` meets its contract. Assumes nothing.
-use borrow.Author.Needs.{needs}
+use Rattle.ground.proofs.Names.{needs}
 use Rattle.row.proofs.RowLaws.{show-refused, show-done}
 use Rattle.row.proofs.Row.show.Statement.{statement}
 use Rattle.row.proofs.Row.show.Tie as tie
@@ -22,11 +22,4 @@ returns-2 c =
 
 pub show-spec : {M : Type 1} → statement M
 show-spec =
-    tie.close
-    (tie.spec
-    (λ c κs. search needs)
-    (λ c κs. search needs)
-    returns
-    named-requires
-    (λ c κs. search needs)
-    returns-2)
+    tie.close (tie.spec (λ c κs. search needs) (λ c κs. search needs) returns named-requires (λ c κs. search needs) returns-2)

@@ -1,9 +1,5 @@
 -- `row::Row::widths` meets its contract. The invariant: the widths of the first i records. Assumes nothing.
-use Prim.Native.Nat.{_-_, _≤_, _<_}
-use native.Mathlib.Omega.{arith}
-use mathlib.Core.Path.{_≡_, _∙_}
-use lib.ListN.{length, take}
-use borrow.Author.Needs.{needs}
+use Rattle.ground.proofs.Names.{_-_, _≤_, _<_, arith, _≡_, _∙_, length, take, needs}
 use Rattle.device.specs.PowerUp.{powerUp}
 use Rattle.pass.specs.Widths.{noWidths, widthsOf}
 use Rattle.pass.proofs.WidthLaws.{widths-start, widths-more, fit-all}
@@ -39,15 +35,5 @@ returns c =
 pub widths-spec : {M : Type 1} → statement M
 widths-spec =
     tie.close
-    (tie.spec
-    Inv-loop
-    μ-loop
-    (λ c κs. search needs)
-    loop-holds
-    (λ c. search needs)
-    (λ c. search needs)
-    (λ c κs. search needs)
-    (λ c. search needs)
-    (λ c. omega arith)
-    loop-again
-    returns)
+    (tie.spec Inv-loop μ-loop (λ c κs. search needs) loop-holds (λ c. search needs) (λ c. search needs) (λ c κs. search needs) (λ c. search needs)
+    (λ c. omega arith) loop-again returns)

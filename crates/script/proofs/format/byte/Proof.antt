@@ -1,8 +1,5 @@
 -- `script::format::byte` meets its contract. Assumes nothing.
-use native.Mathlib.Omega.{arith}
-use mathlib.Core.Path.{sym}
-use lib.ListN.{List·getD-eq-default}
-use borrow.Author.Needs.{needs}
+use Rattle.ground.proofs.Names.{arith, sym, List·getD-eq-default, needs}
 use Rattle.script.proofs.format.byte.Statement.{statement}
 use Rattle.script.proofs.format.byte.Tie as tie
 

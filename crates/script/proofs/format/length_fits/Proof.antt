@@ -1,5 +1,5 @@
 -- `script::format::length_fits` meets its contract. Assumes nothing.
-use Rattle.ground.proofs.Tests.{tests}
+use Rattle.ground.proofs.Names.{tests}
 use Rattle.script.proofs.format.length_fits.Statement.{statement}
 use Rattle.script.proofs.format.length_fits.Tie as tie
 

@@ -1,6 +1,5 @@
 -- `script::format::record_size` meets its contract. Assumes nothing.
-use borrow.Author.Needs.{needs}
-use Rattle.ground.proofs.Tests.{tests}
+use Rattle.ground.proofs.Names.{needs, tests}
 use Rattle.script.proofs.format.record_size.Statement.{statement}
 use Rattle.script.proofs.format.record_size.Tie as tie
 
@@ -22,16 +21,5 @@ returns-6 c = rw (← c .before .before .before .before .before .before .before 
 pub record-size-spec : {M : Type 1} → statement M
 record-size-spec =
     tie.close
-    (tie.spec
-    (λ c. search tests)
-    (λ c κs. search needs)
-    returns-2
-    (λ c κs. search needs)
-    returns-3
-    (λ c κs. search needs)
-    (λ c. search needs)
-    returns-4
-    (λ c κs. search needs)
-    (λ c κs. search needs)
-    returns-5
-    returns-6)
+    (tie.spec (λ c. search tests) (λ c κs. search needs) returns-2 (λ c κs. search needs) returns-3 (λ c κs. search needs) (λ c. search needs) returns-4
+    (λ c κs. search needs) (λ c κs. search needs) returns-5 returns-6)

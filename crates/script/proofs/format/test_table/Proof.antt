@@ -1,6 +1,5 @@
 -- `script::format::test_table` meets its contract. Assumes nothing.
-use mathlib.Core.Path.{refl}
-use Rattle.ground.specs.Lists.{tabulate}
+use Rattle.ground.proofs.Names.{refl, tabulate}
 use Rattle.script.proofs.format.test_table.Statement.{statement}
 use Rattle.script.proofs.format.test_table.Tie as tie
 

@@ -1,7 +1,5 @@
 -- `script::lines::answer_line` meets its contract. Assumes nothing.
-use native.Mathlib.Omega.{arith}
-use mathlib.Core.Path.{refl}
-use borrow.Author.Needs.{needs}
+use Rattle.ground.proofs.Names.{arith, refl, needs}
 use Rattle.script.specs.Lines.{hexByte}
 use Rattle.script.proofs.RoomLaws.{written-length, both-written, length-each, answer-none, answer-some}
 use Rattle.script.proofs.lines.answer_line.Statement.{statement}
@@ -24,15 +22,5 @@ returns-2 c =
 pub answer-line-spec : {M : Type 1} → statement M
 answer-line-spec =
     tie.close
-    (tie.spec
-    (λ c. search needs)
-    (λ c κs. search needs)
-    (λ c. search needs)
-    returns
-    (λ c. search needs)
-    (λ c κs. search needs)
-    (λ c κs. search needs)
-    (λ c. search needs)
-    text-requires-3
-    (λ c. search needs)
-    returns-2)
+    (tie.spec (λ c. search needs) (λ c κs. search needs) (λ c. search needs) returns (λ c. search needs) (λ c κs. search needs) (λ c κs. search needs)
+    (λ c. search needs) text-requires-3 (λ c. search needs) returns-2)

@@ -1,6 +1,5 @@
 -- `script::lines::chain_line` meets its contract. Assumes nothing.
-use borrow.Author.Tests.{lt-ltb, le-ltb}
-use borrow.Author.Needs.{needs}
+use Rattle.ground.proofs.Names.{lt-ltb, le-ltb, needs}
 use Rattle.script.proofs.RoomLaws.{both-written}
 use Rattle.script.proofs.lines.chain_line.Statement.{statement}
 use Rattle.script.proofs.lines.chain_line.Tie as tie
@@ -14,17 +13,5 @@ returns-2 c = rw (le-ltb _ _ (c .before .before .before .before .before .before 
 pub chain-line-spec : {M : Type 1} → statement M
 chain-line-spec =
     tie.close
-    (tie.spec
-    (λ c. search needs)
-    (λ c κs. search needs)
-    (λ c κs. search needs)
-    (λ c. search needs)
-    (λ c κs. search needs)
-    (λ c. search needs)
-    returns
-    (λ c κs. search needs)
-    (λ c κs. search needs)
-    (λ c. search needs)
-    (λ c κs. search needs)
-    (λ c. search needs)
-    returns-2)
+    (tie.spec (λ c. search needs) (λ c κs. search needs) (λ c κs. search needs) (λ c. search needs) (λ c κs. search needs) (λ c. search needs) returns
+    (λ c κs. search needs) (λ c κs. search needs) (λ c. search needs) (λ c κs. search needs) (λ c. search needs) returns-2)

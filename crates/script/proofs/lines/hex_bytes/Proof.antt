@@ -1,9 +1,5 @@
 -- `script::lines::hex_bytes` meets its contract. Assumes nothing.
-use Prim.Native.Nat.{_-_}
-use native.Mathlib.Numerals.{towards-suc}
-use native.Mathlib.Omega.{arith}
-use mathlib.Core.Path.{refl}
-use lib.ListN.{length, length-set}
+use Rattle.ground.proofs.Names.{_-_, towards-suc, arith, refl, length, length-set}
 use Rattle.script.specs.Lines.{hexByte}
 use Rattle.script.proofs.RoomLaws.{Texts, texts-start, texts-more, texts-all}
 use Rattle.script.proofs.lines.hex_bytes.Statement.{statement}
@@ -24,19 +20,6 @@ loop-again c = texts-more _ (c .before .before .before .before .loop .inv) (omeg
 pub hex-bytes-spec : {M : Type 1} → statement M
 hex-bytes-spec =
     tie.close
-    (tie.spec
-    Inv-loop
-    μ-loop
-    (λ c. texts-start)
-    (λ c. omega arith)
-    hex-digit-requires
-    (λ c. omega arith)
-    (λ c κs. omega arith)
-    (λ c. omega arith)
-    (λ c. simp length-set (omega arith))
-    (λ c. omega arith)
-    (λ c. omega arith)
-    (λ c. omega arith)
-    loop-again
-    (λ c. c .before .loop .inv .size)
+    (tie.spec Inv-loop μ-loop (λ c. texts-start) (λ c. omega arith) hex-digit-requires (λ c. omega arith) (λ c κs. omega arith) (λ c. omega arith)
+    (λ c. simp length-set (omega arith)) (λ c. omega arith) (λ c. omega arith) (λ c. omega arith) loop-again (λ c. c .before .loop .inv .size)
     (λ c. texts-all (c .before .loop .inv) (omega arith)))

@@ -1,6 +1,5 @@
 -- `script::lines::hex_digit` meets its contract. Assumes nothing.
-use borrow.Author.Needs.{needs}
-use Rattle.ground.proofs.Tests.{tests}
+use Rattle.ground.proofs.Names.{needs, tests}
 use Rattle.script.proofs.lines.hex_digit.Statement.{statement}
 use Rattle.script.proofs.lines.hex_digit.Tie as tie
 

@@ -1,8 +1,5 @@
 -- `script::lines::letters` meets its contract. Assumes nothing.
-use Prim.Native.Nat.{_-_}
-use native.Mathlib.Omega.{arith}
-use mathlib.Core.Path.{refl}
-use borrow.Author.Needs.{needs}
+use Rattle.ground.proofs.Names.{_-_, arith, refl, needs}
 use Rattle.script.specs.Lines.{pinText}
 use Rattle.script.proofs.RoomLaws.{Texts, texts-start, texts-more, texts-all}
 use Rattle.script.proofs.lines.letters.Statement.{statement}
@@ -23,16 +20,5 @@ loop-again c = texts-more _ (c .before .before .loop .inv) (search needs) refl (
 pub letters-spec : {M : Type 1} → statement M
 letters-spec =
     tie.close
-    (tie.spec
-    Inv-loop
-    μ-loop
-    loop-holds
-    (λ c. omega arith)
-    (λ c κs. search needs)
-    (λ c. omega arith)
-    (λ c. omega arith)
-    (λ c. omega arith)
-    (λ c. omega arith)
-    loop-again
-    (λ c. c .before .loop .inv .size)
-    (λ c. texts-all (c .before .loop .inv) (search needs)))
+    (tie.spec Inv-loop μ-loop loop-holds (λ c. omega arith) (λ c κs. search needs) (λ c. omega arith) (λ c. omega arith) (λ c. omega arith) (λ c. omega arith)
+    loop-again (λ c. c .before .loop .inv .size) (λ c. texts-all (c .before .loop .inv) (search needs)))

@@ -1,5 +1,5 @@
 -- `script::lines::refusal_line` meets its contract. Assumes nothing.
-use borrow.Author.Needs.{needs}
+use Rattle.ground.proofs.Names.{needs}
 use Rattle.script.proofs.lines.refusal_line.Statement.{statement}
 use Rattle.script.proofs.lines.refusal_line.Tie as tie
 

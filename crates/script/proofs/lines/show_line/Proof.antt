@@ -1,8 +1,5 @@
 -- `script::lines::show_line` meets its contract. Assumes nothing.
-use native.Mathlib.Omega.{arith}
-use mathlib.Core.Path.{_≡_, refl}
-use lib.ListN.{length}
-use borrow.Author.Needs.{needs}
+use Rattle.ground.proofs.Names.{arith, _≡_, refl, length, needs}
 use Rattle.script.specs.Lines.{pinText}
 use Rattle.script.proofs.RoomLaws.{written-length, both-written, length-each}
 use Rattle.script.proofs.lines.show_line.Statement.{statement}
@@ -22,12 +19,5 @@ returns c = both-written _ _ _ _ _ _ _ _ (c .before .before .before .before .bef
 pub show-line-spec : {M : Type 1} → statement M
 show-line-spec =
     tie.close
-    (tie.spec
-    (λ c. search needs)
-    (λ c κs. search needs)
-    (λ c κs. search needs)
-    (λ c κs. search needs)
-    (λ c. search needs)
-    text-requires-2
-    (λ c. search needs)
+    (tie.spec (λ c. search needs) (λ c κs. search needs) (λ c κs. search needs) (λ c κs. search needs) (λ c. search needs) text-requires-2 (λ c. search needs)
     returns)

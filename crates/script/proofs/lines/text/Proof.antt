@@ -1,9 +1,5 @@
 -- `script::lines::text` meets its contract. Assumes nothing.
-use Prim.Native.Nat.{_-_}
-use native.Mathlib.Omega.{arith}
-use mathlib.Core.List.{[], _∷_}
-use mathlib.Core.Path.{refl}
-use lib.ListN.{length}
+use Rattle.ground.proofs.Names.{_-_, arith, [], _∷_, refl, length}
 use Rattle.script.proofs.RoomLaws.{Texts, texts-start, texts-more, texts-all, each-self}
 use Rattle.script.proofs.lines.text.Statement.{statement}
 use Rattle.script.proofs.lines.text.Tie as tie
@@ -17,15 +13,6 @@ abbrev μ-loop : tie.MeasureT-loop
 pub text-spec : {M : Type 1} → statement M
 text-spec =
     tie.close
-    (tie.spec
-    Inv-loop
-    μ-loop
-    (λ c. texts-start)
-    (λ c. omega arith)
-    (λ c. omega arith)
-    (λ c. omega arith)
-    (λ c. omega arith)
-    (λ c. omega arith)
-    (λ c. texts-more _ (c .before .before .loop .inv) (omega arith) refl refl)
-    (λ c. c .before .loop .inv .size)
+    (tie.spec Inv-loop μ-loop (λ c. texts-start) (λ c. omega arith) (λ c. omega arith) (λ c. omega arith) (λ c. omega arith) (λ c. omega arith)
+    (λ c. texts-more _ (c .before .before .loop .inv) (omega arith) refl refl) (λ c. c .before .loop .inv .size)
     (λ c. rw (each-self (c .before .before .args .bytes .now)) at (texts-all (c .before .loop .inv) (omega arith))))

@@ -11,7 +11,7 @@ use Rattle.lent.proofs.call_refusal as number
 use Rattle.pass.proofs.plane_refusal as own
 use Rattle.answers.proofs.plane_refused as refused
 use Rattle.display.proofs.plane as work
-use Rattle.chain.proofs.Asks.{asks-spec}
+use Rattle.shapes.proofs.Asks.{asks-spec}
 use Rattle.chain.proofs.max6954_plane as this
 
 pub max6954-plane-spec : {M : Type 1} → this.Statement.statement M

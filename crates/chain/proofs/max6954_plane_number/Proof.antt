@@ -9,7 +9,7 @@ use Rattle.lent.proofs.call_refusal as number
 use Rattle.blink.proofs.plane_refusal as own
 use Rattle.answers.proofs.number_refused as refused
 use Rattle.answers.proofs.number_served as work
-use Rattle.chain.proofs.Asks.{asks-spec}
+use Rattle.shapes.proofs.Asks.{asks-spec}
 use Rattle.chain.proofs.max6954_plane_number as this
 
 pub max6954-plane-number-spec : {M : Type 1} → this.Statement.statement M

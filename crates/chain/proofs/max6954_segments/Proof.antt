@@ -12,7 +12,7 @@ use Rattle.lent.proofs.call_refusal as number
 use Rattle.display.proofs.segments_refusal as own
 use Rattle.answers.proofs.segments_refused as refused
 use Rattle.display.proofs.segments as work
-use Rattle.chain.proofs.Asks.{asks-spec}
+use Rattle.shapes.proofs.Asks.{asks-spec}
 use Rattle.chain.proofs.max6954_segments as this
 
 pub max6954-segments-spec : {M : Type 1} → this.Statement.statement M

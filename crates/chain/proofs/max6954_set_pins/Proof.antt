@@ -8,7 +8,7 @@ use Rattle.lent.proofs.Params.{held}
 use Rattle.lent.proofs.call_refusal as number
 use Rattle.pass.proofs.levels_refusal as own
 use Rattle.device.proofs.Device.with_pins as work
-use Rattle.chain.proofs.Gives.{gives-spec}
+use Rattle.shapes.proofs.Gives.{gives-spec}
 use Rattle.chain.proofs.max6954_set_pins as this
 
 pub max6954-set-pins-spec : {M : Type 1} → this.Statement.statement M

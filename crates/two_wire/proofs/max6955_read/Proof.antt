@@ -12,7 +12,7 @@ use Rattle.transfers.proofs.part_open as opened
 use Rattle.transfers.proofs.read_free as free
 use Rattle.transfers.proofs.read as work
 use Rattle.transfers.proofs.read_open as answer
-use Rattle.two_wire.proofs.Bytes.{bytes-spec}
+use Rattle.shapes.proofs.Bytes.{bytes-spec}
 use Rattle.two_wire.proofs.max6955_read as this
 
 pub max6955-read-spec : {M : Type 1} → this.Statement.statement M

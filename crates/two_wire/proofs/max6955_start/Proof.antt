@@ -6,7 +6,7 @@ use Rattle.bus.specs.BusCalls.{start}
 use Rattle.transfers.proofs.BusLaws.{starts}
 use Rattle.lent.proofs.call_refusal as number
 use Rattle.transfers.proofs.start_answer as answer
-use Rattle.two_wire.proofs.Moves.{moves-spec}
+use Rattle.shapes.proofs.Moves.{moves-spec}
 use Rattle.two_wire.proofs.max6955_start as this
 
 pub max6955-start-spec : {M : Type 1} → this.Statement.statement M

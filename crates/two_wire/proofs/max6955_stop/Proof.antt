@@ -6,7 +6,7 @@ use Rattle.bus.specs.BusCalls.{stop}
 use Rattle.transfers.proofs.BusLaws.{stops}
 use Rattle.lent.proofs.call_refusal as number
 use Rattle.transfers.proofs.stop_answer as answer
-use Rattle.two_wire.proofs.Moves.{moves-spec}
+use Rattle.shapes.proofs.Moves.{moves-spec}
 use Rattle.two_wire.proofs.max6955_stop as this
 
 pub max6955-stop-spec : {M : Type 1} → this.Statement.statement M

@@ -14,7 +14,7 @@ use Rattle.transfers.proofs.part_open as opened
 use Rattle.transfers.proofs.write_free as free
 use Rattle.transfers.proofs.written as work
 use Rattle.transfers.proofs.write_open as answer
-use Rattle.two_wire.proofs.Bytes.{bytes-spec}
+use Rattle.shapes.proofs.Bytes.{bytes-spec}
 use Rattle.two_wire.proofs.max6955_write as this
 
 pub max6955-write-spec : {M : Type 1} → this.Statement.statement M

@@ -22,7 +22,7 @@ use Rattle.pass.proofs.FoundLaws.{in-range, own-zero, ask-served, ask-refused}
 use Rattle.lent.proofs.Records.{size, byte, device, recordBytes}
 use Rattle.lent.proofs.Walk.{Walk, lands-known, leave, leave-room, forks, proves}
 use Rattle.lent.proofs.Params.{Kind, held, inner, outer, inners, outers, type, Of, Seen, seen, seens, values, Args, sent, back, sent-back, sents, spelled, told, machine, Good, stays, goes, ends, fits, Had, has, typed-back, comes, sends, doubled, locals-of, operands, after, env, spot-after, found, alloc-all, pass-all, leave-all, opds-all, FnOf, calls-kinds}
-use Rattle.chain.proofs.Steps.{CallRefusal, numbers}
+use Rattle.shapes.proofs.Steps.{CallRefusal, numbers}
 use Rattle.lent.proofs.call_refusal.Symbol as number-def
 
 -- the locals after the parameters: own, number, at; and those of the test and the read

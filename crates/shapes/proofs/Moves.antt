@@ -19,8 +19,8 @@ use Rattle.lent.proofs.Records.{size, byte, device}
 use Rattle.lent.proofs.Walk.{Walk, calls-value, value-fn, value-says, leave, proves}
 use Rattle.lent.proofs.Params.{Kind, held, outers, spelled, told, machine, Good, stays, goes, ends, fits, Had, has}
 use Rattle.lent.proofs.call_refusal.Symbol as number-def
-use Rattle.two_wire.proofs.Answers.{busState, strapsGiven, busAnswer}
-use Rattle.chain.proofs.Steps.{CallRefusal, numbers}
+use Rattle.shapes.proofs.BusTypes.{busState, strapsGiven, busAnswer}
+use Rattle.shapes.proofs.Steps.{CallRefusal, numbers}
 
 -- the parameters after the parts
 abbrev others : List (Kind 0)

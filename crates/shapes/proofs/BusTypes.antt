@@ -1,4 +1,4 @@
--- The types of the bus state, the straps and the answers, for the walks of this crate.
+-- The types of the bus state, the straps and the answers of the bus, for its shapes.
 -- Assumes nothing.
 use Rattle.lent.proofs.Walk.{Data, rec}
 use Rattle.bus.proofs.Bus as U

@@ -23,9 +23,9 @@ use Rattle.lent.proofs.Records.{size, byte, device, recordBytes}
 use Rattle.lent.proofs.Walk.{Walk, lands-known, calls-value, leave, leave-room, forks, proves}
 use Rattle.lent.proofs.Params.{Kind, held, inners, outers, Seen, seens, values, Args, sents, spelled, told, machine, Good, stays, goes, ends, fits, Had, has, sends, doubled, locals-of, operands, after, env, spot-after, found, alloc-all, pass-all, leave-all, opds-all, FnOf, calls-kinds}
 use Rattle.lent.proofs.call_refusal.Symbol as number-def
-use Rattle.two_wire.proofs.Answers.{busState, strapsGiven, byteAnswer}
-use Rattle.chain.proofs.Asks.{not-zero}
-use Rattle.chain.proofs.Steps.{ref, CallRefusal, numbers-mut}
+use Rattle.shapes.proofs.BusTypes.{busState, strapsGiven, byteAnswer}
+use Rattle.shapes.proofs.Asks.{not-zero}
+use Rattle.shapes.proofs.Steps.{ref, CallRefusal, numbers-mut}
 
 abbrev pointed : Ty
 pointed = pointee (device .row .written)

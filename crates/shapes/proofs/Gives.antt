@@ -19,7 +19,7 @@ use Rattle.pass.proofs.FoundLaws.{in-range, give-served, give-refused}
 use Rattle.lent.proofs.Records.{size, byte, device, recordBytes}
 use Rattle.lent.proofs.Walk.{Walk, lands-known, leave, leave-room, joins, proves}
 use Rattle.lent.proofs.Params.{Kind, held, inners, outers, Seen, seens, values, Args, sents, spelled, told, machine, Good, stays, goes, ends, fits, Had, has, sends, doubled, locals-of, operands, after, env, spot-after, found, alloc-all, pass-all, leave-all, opds-all, FnOf, calls-kinds}
-use Rattle.chain.proofs.Steps.{ref, CallRefusal, numbers-mut}
+use Rattle.shapes.proofs.Steps.{ref, CallRefusal, numbers-mut}
 use Rattle.lent.proofs.call_refusal.Symbol as number-def
 
 abbrev pointed : Ty

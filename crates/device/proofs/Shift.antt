@@ -27,8 +27,8 @@ unfolding taken
 taken-mark d w = go (bit 15 w) refl
   where
     go : (b : Bool) → bit 15 w ≡ b → taken d w .«answer_mark» ≡ if b 1 0
-    go true e = rw (read-word w e)
-    go false e = rw (write-word w e)
+    go true e = simp (read-word w e)
+    go false e = simp (write-word w e)
 
 pub shift-word : ShiftWord
 shift-word = record { after-write = shift-after-write; after-read = shift-after-read; marked = taken-mark }

@@ -4,4 +4,4 @@ use Rattle.blink.proofs.is_set.Statement.{statement}
 use Rattle.blink.proofs.is_set.Tie as tie
 
 pub is-set-spec : {M : Type 1} → statement M
-is-set-spec = tie.close (tie.spec (λ c. rw (and-mask (c .args .v) 1)))
+is-set-spec = tie.close (tie.spec (λ c. simp (and-mask (c .args .v) 1)))

@@ -3,4 +3,4 @@ use Rattle.pass.proofs.driver_refusal.Statement.{statement}
 use Rattle.pass.proofs.driver_refusal.Tie as tie
 
 pub driver-refusal-spec : {M : Type 1} → statement M
-driver-refusal-spec = tie.close (tie.spec (λ c. rw (c .if1 .taken)) (λ c. rw (c .if1 .left)))
+driver-refusal-spec = tie.close (tie.spec (λ c. simp (c .if1 .taken)) (λ c. simp (c .if1 .left)))

@@ -3,4 +3,4 @@ use Rattle.pass.proofs.look_back_refusal.Statement.{statement}
 use Rattle.pass.proofs.look_back_refusal.Tie as tie
 
 pub look-back-refusal-spec : {M : Type 1} → statement M
-look-back-refusal-spec = tie.close (tie.spec (λ c. rw (c .if1 .taken)) (λ c. rw (c .if1 .left)))
+look-back-refusal-spec = tie.close (tie.spec (λ c. simp (c .if1 .taken)) (λ c. simp (c .if1 .left)))

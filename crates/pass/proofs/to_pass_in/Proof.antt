@@ -3,4 +3,4 @@ use Rattle.pass.proofs.to_pass_in.Statement.{statement}
 use Rattle.pass.proofs.to_pass_in.Tie as tie
 
 pub to-pass-in-spec : {M : Type 1} → statement M
-to-pass-in-spec = tie.close (tie.spec (λ c. rw (c .if1 .taken)) (λ c. rw (c .if1 .left)))
+to-pass-in-spec = tie.close (tie.spec (λ c. simp (c .if1 .taken)) (λ c. simp (c .if1 .left)))

@@ -1,6 +1,5 @@
 -- `blink::in_cycle` meets its contract. The invariant: what is left is below 2^k cycles, and has the same remainder. Assumes nothing.
 use Rattle.ground.proofs.Names.{ℕ, suc, _*_, _-_, _%_, _^_, _<_, _≤_, pow-suc, mod-eq-of-lt, arith, _≡_, refl, pow-mono, needs}
-use Rattle.blink.proofs.in_cycle.Statement.{statement}
 use Rattle.blink.proofs.in_cycle.Tie as tie
 
 abbrev Inv-loop : tie.InvT-loop
@@ -35,7 +34,7 @@ returns c =
     let h : l .left < 4000000 * 2 ^ 0 = rw z at (l .inv .1) in
     omega (arith, h, l .inv .2)
 
-pub in-cycle-spec : {M : Type 1} → statement M
+pub in-cycle-spec : {M : Type 1} → Rattle.blink.proofs.in_cycle.Statement.statement M
 in-cycle-spec =
     tie.close
     (tie.spec Inv-loop μ-loop (λ c. (omega arith, search needs, refl)) (λ c. search needs) (λ c. search needs) (λ c. search needs) loop-again

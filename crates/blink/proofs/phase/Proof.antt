@@ -1,6 +1,5 @@
 -- `blink::phase` meets its contract. Assumes nothing.
 use Rattle.ground.proofs.Names.{_+_, _%_, arith, _≡_, needs, tests}
-use Rattle.blink.proofs.phase.Statement.{statement}
 use Rattle.blink.proofs.phase.Tie as tie
 
 -- a count brought below a cycle is in the same half of the fast period
@@ -10,7 +9,7 @@ returns c =
     let e : (n + 0) % 4000000 % 2000000 ≡ n % 2000000 = omega arith in
     rw (c .before .before .if1 .taken, ← e) (rw (c .before .advanced .ensures) at (c .fast-phase .ensures))
 
-pub phase-spec : {M : Type 1} → statement M
+pub phase-spec : {M : Type 1} → Rattle.blink.proofs.phase.Statement.statement M
 phase-spec =
     tie.close
     (tie.spec (λ c κs. search needs) (λ c κs. omega (arith, c .advanced .ensures)) returns (λ c. rw (c .before .if1 .left) (search tests))

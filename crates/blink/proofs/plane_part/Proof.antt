@@ -1,7 +1,6 @@
 -- `blink::plane_part` meets its contract. Assumes nothing.
 use Rattle.ground.proofs.Names.{arith, sym, _∙_, ne-eqb, needs}
 use Rattle.refusals.proofs.RefusalLaws.{PlaneServed as Served, plane-served as served}
-use Rattle.blink.proofs.plane_part.Statement.{statement}
 use Rattle.blink.proofs.plane_part.Tie as tie
 
 given : (c : tie.Else1) → Served (c .before .before .before .before .args .p0 .now) (c .before .before .before .before .args .p1 .now) (c .before .before .before .before .args .first) (c .before .before .before .before .args .last)
@@ -34,7 +33,7 @@ returns-2 c = rw (← c .before .before .before .before .plane-refusal .ensures,
 returns-3 : tie.Need-returns-3
 returns-3 c = rw (← c .before .before .before .before .plane-refusal .ensures, c .before .before .before .if1 .left) (simp (c .before .enum-told2 .given .1))
 
-pub plane-part-spec : {M : Type 1} → statement M
+pub plane-part-spec : {M : Type 1} → Rattle.blink.proofs.plane_part.Statement.statement M
 plane-part-spec =
     tie.close
     (tie.spec (λ c κs. search needs) (λ c. search needs) returns (λ c. omega (arith, given c .digits)) (λ c. search needs) sub-result part-result-start

@@ -1,6 +1,5 @@
 -- `display::display_by` meets its contract. Assumes nothing.
 use Rattle.ground.proofs.Names.{needs}
-use Rattle.display.proofs.display_by.Statement.{statement}
 use Rattle.display.proofs.display_by.Tie as tie
 
 returns : tie.Need-returns
@@ -12,6 +11,6 @@ returns-2 c = rw (← c .before .before .before .bit-at .ensures, ← c .before 
 returns-3 : tie.Need-returns-3
 returns-3 c = rw (← c .before .before .before .bit-at .ensures, ← c .before .bit-at2 .ensures, c .before .before .if1 .left, c .if2 .left)
 
-pub display-by-spec : {M : Type 1} → statement M
+pub display-by-spec : {M : Type 1} → Rattle.display.proofs.display_by.Statement.statement M
 display-by-spec =
     tie.close (tie.spec (λ c κs. search needs) (λ c κs. search needs) returns returns-2 returns-3)

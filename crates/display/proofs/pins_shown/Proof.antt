@@ -1,7 +1,6 @@
 -- `display::pins_shown` meets its contract. Assumes nothing.
 use Rattle.ground.proofs.Names.{sym, _∙_, arith, tabulate, needs}
 use Rattle.display.proofs.Wires.{pins-dark, pins-lit}
-use Rattle.display.proofs.pins_shown.Statement.{statement}
 use Rattle.display.proofs.pins_shown.Tie as tie
 
 returns : tie.Need-returns
@@ -38,7 +37,7 @@ returns-2 c =
     (lit .shown-segments .ensures ∙ rw (byte, byte-a, display, lit .before .before .bit-at .ensures))
     (c .before .packed-row .ensures)
 
-pub pins-shown-spec : {M : Type 1} → statement M
+pub pins-shown-spec : {M : Type 1} → Rattle.display.proofs.pins_shown.Statement.statement M
 pins-shown-spec =
     tie.close
     (tie.spec (λ c κs. search needs) returns (λ c. search needs) (λ c κs. search needs) (λ c κs. search needs) (λ c. search needs) (λ c κs. search needs)

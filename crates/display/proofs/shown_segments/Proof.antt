@@ -1,6 +1,5 @@
 -- `display::shown_segments` meets its contract. Assumes nothing.
 use Rattle.ground.proofs.Names.{false, _≡_, needs}
-use Rattle.display.proofs.shown_segments.Statement.{statement}
 use Rattle.display.proofs.shown_segments.Tie as tie
 
 returns-2 : tie.Need-returns-2
@@ -18,7 +17,7 @@ returns-4 c =
     let off : c .before .before .before .before .before .before .args .test ≡ false = c .before .before .before .if1 .left in
     rw off (simp (c .before .enum-told3 .given .1, c .pair-segments .ensures))
 
-pub shown-segments-spec : {M : Type 1} → statement M
+pub shown-segments-spec : {M : Type 1} → Rattle.display.proofs.shown_segments.Statement.statement M
 shown-segments-spec =
     tie.close
     (tie.spec (λ c. search needs) (λ c. search needs) (λ c κs. search needs) (λ c. search needs) (λ c κs. search needs) (λ c. search needs)

@@ -1,6 +1,5 @@
 -- `glyphs::glyph_segments` meets its contract. Assumes nothing.
 use Rattle.ground.proofs.Names.{refl, past, arith, _%_, needs}
-use Rattle.glyphs.proofs.glyph_segments.Statement.{statement}
 use Rattle.glyphs.proofs.glyph_segments.Tie as tie
 
 cast-result : tie.Need-cast-result
@@ -14,7 +13,7 @@ returns-2 c =
     let a = c .before .args in
     omega (arith, past _ (a .font .now) (a .byte % 128) refl (search needs))
 
-pub glyph-segments-spec : {M : Type 1} → statement M
+pub glyph-segments-spec : {M : Type 1} → Rattle.glyphs.proofs.glyph_segments.Statement.statement M
 glyph-segments-spec =
     tie.close
     (tie.spec (λ c. search needs) (λ c. search needs) (λ c. search needs) (λ c. search needs) (λ c. search needs) cast-result add-result (λ c. search needs)

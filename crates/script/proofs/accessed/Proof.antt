@@ -5,7 +5,6 @@ use Rattle.calls.specs.Calls.{access}
 use Rattle.row.specs.declared.Done.{Done}
 use Rattle.script.specs.Format.{word, answerRoom}
 use Rattle.script.proofs.RunLaws.{to-end, access-fits, answered, refused}
-use Rattle.script.proofs.accessed.Statement.{statement}
 use Rattle.script.proofs.accessed.Tie as tie
 
 array-share-prefix-room : tie.Need-array-share-prefix-room
@@ -45,7 +44,7 @@ returns-2 c =
     let d = c .before .before .before .before .before .before .before .access .ensures in
     refused (a .row) (access (word (a .body .now) 0) (drop 2 (a .body .now)) answerRoom) _ (a .at) _ _ (c .before .before .before .before .before .before .before .access .result) (rw (w, to-end 2 (a .body .now)) at (d .0)) _ (omega arith) (c .before .before .before .before .if1 .left) (c .before .before .refusal-line .ensures)
 
-pub accessed-spec : {M : Type 1} → statement M
+pub accessed-spec : {M : Type 1} → Rattle.script.proofs.accessed.Statement.statement M
 accessed-spec =
     tie.close
     (tie.spec (λ c κs. search needs) (λ c. search needs) (λ c. search needs) (λ c. search needs) (λ c. search needs) (λ c κs. search needs) (λ c. search needs)

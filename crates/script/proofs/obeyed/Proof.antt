@@ -2,7 +2,6 @@
 use Rattle.ground.proofs.Names.{arith, length, leb-true, needs}
 use Rattle.script.proofs.FormatLaws.{show-length, show-call}
 use Rattle.script.proofs.RunLaws.{given-obeyed}
-use Rattle.script.proofs.obeyed.Statement.{statement}
 use Rattle.script.proofs.obeyed.Tie as tie
 
 accessed-requires : tie.Need-accessed-requires
@@ -45,7 +44,7 @@ returns-5 c =
     rw (show-call (a .kind) (a .body .now) (m .0 .0 .0 .1) (m .0 .0 .1) (m .0 .1) (m .1), show-length (a .kind) (length (a .body .now)) (p .0) (p .1) (m .0 .0 .0 .1) (m .0 .0 .1) (m .0 .1) (m .1))
     (c .before .before .shown .ensures)
 
-pub obeyed-spec : {M : Type 1} → statement M
+pub obeyed-spec : {M : Type 1} → Rattle.script.proofs.obeyed.Statement.statement M
 obeyed-spec =
     tie.close
     (tie.spec accessed-requires (λ c κs. search needs) (λ c. search needs) (λ c κs. search needs) (λ c κs. search needs) (λ c κs. search needs)

@@ -2,7 +2,6 @@
 use Rattle.ground.proofs.Names.{_<_, arith, ltb, ltb-true, needs, and-right}
 use Rattle.script.proofs.RoomLaws.{written-length, both-written}
 use Rattle.script.proofs.StartLaws.{chain-short, prints-lines, prints-refusal}
-use Rattle.script.proofs.print.Statement.{statement}
 use Rattle.script.proofs.print.Tie as tie
 
 run-records-requires : tie.Need-run-records-requires
@@ -27,7 +26,7 @@ returns-2 c =
     let v = c .before .before .refusal-line .ensures in
     (rw (prints-refusal _ _ w (c .before .before .before .before .if1 .left)) v, omega (arith, v .place, c .before .before .before .before .before .before .before .before .pre .1))
 
-pub print-spec : {M : Type 1} → statement M
+pub print-spec : {M : Type 1} → Rattle.script.proofs.print.Statement.statement M
 print-spec =
     tie.close
     (tie.spec (λ c κs. search needs) (λ c κs. search needs) (λ c κs. search needs) (λ c. search needs) run-records-requires (λ c. search needs) returns

@@ -1,7 +1,6 @@
 -- `script::run` meets its contract. Assumes nothing.
 use Rattle.ground.proofs.Names.{arith, lt-ltb, le-ltb, needs}
 use Rattle.script.proofs.StartLaws.{too-little, ran, printed-long, printed-items}
-use Rattle.script.proofs.run.Statement.{statement}
 use Rattle.script.proofs.run.Tie as tie
 
 returns : tie.Need-returns
@@ -32,6 +31,6 @@ returns-3 c =
     let v = c .before .before .print .ensures in
     ran (a .script .now) (a .out .now) _ _ (rw (← r) (c .before .before .before .before .before .if1 .left)) (rw (printed-items (a .script .now) (c .before .before .before .before .if2 .left)) (v .0)) (v .1)
 
-pub run-spec : {M : Type 1} → statement M
+pub run-spec : {M : Type 1} → Rattle.script.proofs.run.Statement.statement M
 run-spec =
     tie.close (tie.spec (λ c κs. search needs) returns refusal-line-requires (λ c. search needs) returns-2 print-requires (λ c. search needs) returns-3)

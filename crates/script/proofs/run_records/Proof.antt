@@ -2,7 +2,6 @@
 use Rattle.ground.proofs.Names.{_-_, arith, _∙_, length, needs}
 use Rattle.script.proofs.RoomLaws.{written-length}
 use Rattle.script.proofs.LoopLaws.{Running, run-starts, found, part-fits, stops-malformed, stops-chain, goes-on, run-ends}
-use Rattle.script.proofs.run_records.Statement.{statement}
 use Rattle.script.proofs.run_records.Tie as tie
 
 abbrev Inv-loop : tie.InvT-loop
@@ -93,7 +92,7 @@ same-length-3 c = c .before .loop .inv .same-room
 returns-3 : tie.Need-returns-3 Inv-loop μ-loop
 returns-3 c = run-ends (c .before .loop .inv) (omega arith)
 
-pub run-records-spec : {M : Type 1} → statement M
+pub run-records-spec : {M : Type 1} → Rattle.script.proofs.run_records.Statement.statement M
 run-records-spec =
     tie.close
     (tie.spec Inv-loop μ-loop (λ c κs. search needs) loop-holds sub-rest (λ c. search needs) (λ c. search needs) (λ c κs. search needs) refusal-line-requires

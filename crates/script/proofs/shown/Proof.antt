@@ -3,7 +3,6 @@ use Rattle.ground.proofs.Names.{arith, needs}
 use Rattle.calls.specs.Calls.{segments}
 use Rattle.script.specs.Format.{byte, testTable}
 use Rattle.script.proofs.RunLaws.{show-served, show-refused}
-use Rattle.script.proofs.shown.Statement.{statement}
 use Rattle.script.proofs.shown.Tie as tie
 
 returns : tie.Need-returns
@@ -20,7 +19,7 @@ returns-2 c =
     show-refused (a .row) (byte (a .body .now) 0) (segments (byte (a .body .now) 1) testTable testTable) 7 (a .at) _ _ (s .result) _
     (rw (c .before .before .before .before .before .before .before .byte .ensures, c .before .before .before .before .before .before .byte2 .ensures, c .before .before .before .before .before .before .before .before .before .before .before .pre .0) at (s .ensures)) (c .before .before .before .before .if1 .left) (omega arith) (c .before .before .refusal-line .ensures)
 
-pub shown-spec : {M : Type 1} → statement M
+pub shown-spec : {M : Type 1} → Rattle.script.proofs.shown.Statement.statement M
 shown-spec =
     tie.close
     (tie.spec (λ c κs. search needs) (λ c. search needs) (λ c κs. search needs) (λ c. search needs) (λ c κs. search needs) (λ c κs. search needs)

@@ -1,7 +1,6 @@
 -- `wire::clear_spare` meets its contract, by the laws of the spare bits. Assumes nothing.
 use Rattle.ground.proofs.Names.{sym, arith, needs}
 use Rattle.wire.proofs.ByteLaws.{none-spare, last-cleared}
-use Rattle.wire.proofs.clear_spare.Statement.{statement}
 use Rattle.wire.proofs.clear_spare.Tie as tie
 
 returns : tie.Need-returns
@@ -15,7 +14,7 @@ returns-2 c =
     let a = c .before .before .args in
     sym (none-spare (a .room .now) (a .clocks) (omega arith) (λ i. c .before .slice-known .given i .fits) (c .if1 .left))
 
-pub clear-spare-spec : {M : Type 1} → statement M
+pub clear-spare-spec : {M : Type 1} → Rattle.wire.proofs.clear_spare.Statement.statement M
 clear-spare-spec =
     tie.close
     (tie.spec (λ c. search needs) (λ c κs. search needs) (λ c. search needs) (λ c. search needs) returns returns-2)

@@ -1,6 +1,5 @@
 -- `wire::copy_bytes` meets its contract. The invariant: k bytes are copied, and the rest is as it was. Assumes nothing.
 use Rattle.ground.proofs.Names.{_-_, _≤_, add-one, arith, _≡_, refl, _∙_, length, length-set, paste, paste-zero, paste-suc}
-use Rattle.wire.proofs.copy_bytes.Statement.{statement}
 use Rattle.wire.proofs.copy_bytes.Tie as tie
 
 abbrev Inv-loop : tie.InvT-loop
@@ -28,7 +27,7 @@ returns c =
     let e : l .k ≡ a .n = omega arith in
     l .inv .2 ∙ rw e
 
-pub copy-bytes-spec : {M : Type 1} → statement M
+pub copy-bytes-spec : {M : Type 1} → Rattle.wire.proofs.copy_bytes.Statement.statement M
 copy-bytes-spec =
     tie.close
     (tie.spec Inv-loop μ-loop loop-holds (λ c. omega arith) (λ c. omega arith) (λ c. omega arith) (λ c. omega arith) (λ c. omega arith) loop-again

@@ -3,7 +3,6 @@ use Rattle.ground.proofs.Names.{_≤_, arith, true, _≡_, refl, sym, _∙_, le
 use Rattle.refusals.specs.Refusals.{bytesFor}
 use Rattle.refusals.proofs.RefusalLaws.{size-served as served}
 use Rattle.wire.specs.Shift.{fits}
-use Rattle.wire.proofs.shift.Statement.{statement}
 use Rattle.wire.proofs.shift.Tie as tie
 
 -- past the three tests the access fits
@@ -42,7 +41,7 @@ returns-4 c = simp (passed (c .before .before .before .before .before .before .b
 returns-5 : tie.Need-returns-5
 returns-5 c = simp (passed (c .before .before .before .before .before .before .before .before)) (c .before .before .before .before .shift-part .ensures)
 
-pub shift-spec : {M : Type 1} → statement M
+pub shift-spec : {M : Type 1} → Rattle.wire.proofs.shift.Statement.statement M
 shift-spec =
     tie.close
     (tie.spec returns returns-2 (λ c κs. search needs) returns-3 (λ c. search needs) shift-whole-requires shift-part-requires (λ c. search needs)

@@ -2,7 +2,6 @@
 use Rattle.ground.proofs.Names.{arith, _≡_, sym, _∙_, length, take, replicate, length-take-le, needs}
 use Rattle.wire.proofs.LineLaws.{bytes-fit}
 use Rattle.wire.proofs.AccessLaws.{line-words, line-answer}
-use Rattle.wire.proofs.shift_part.Statement.{statement}
 use Rattle.wire.proofs.shift_part.Tie as tie
 
 returns : tie.Need-returns
@@ -20,7 +19,7 @@ returns c =
       cleared .clear-spare .ensures ∙ line-answer ws (a .sent .now) (a .n) (a .clocks) count (start .pre .3) _ _ _ old (copied .copy-bytes .ensures) (omega arith) (a .room .now) _ (answered .copy-bytes2 .ensures),
     )
 
-pub shift-part-spec : {M : Type 1} → statement M
+pub shift-part-spec : {M : Type 1} → Rattle.wire.proofs.shift_part.Statement.statement M
 shift-part-spec =
     tie.close
     (tie.spec (λ c. search needs) (λ c. search needs)

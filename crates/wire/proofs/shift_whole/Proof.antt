@@ -2,7 +2,6 @@
 use Rattle.ground.proofs.Names.{arith, _≡_, sym, _∙_, length, take, length-take-le, needs}
 use Rattle.wire.proofs.LineLaws.{bytes-fit}
 use Rattle.wire.proofs.AccessLaws.{sent-words, whole-answer}
-use Rattle.wire.proofs.shift_whole.Statement.{statement}
 use Rattle.wire.proofs.shift_whole.Tie as tie
 
 returns : tie.Need-returns
@@ -19,7 +18,7 @@ returns c =
       cleared .clear-spare .ensures ∙ whole-answer ws (a .sent .now) (a .n) (a .clocks) count (start .pre .3) (start .pre .2) (a .room .now) _ _ old (copied .copy-bytes .ensures),
     )
 
-pub shift-whole-spec : {M : Type 1} → statement M
+pub shift-whole-spec : {M : Type 1} → Rattle.wire.proofs.shift_whole.Statement.statement M
 shift-whole-spec =
     tie.close
     (tie.spec (λ c. search needs) (λ c. search needs)

@@ -2,7 +2,6 @@
 use Rattle.ground.proofs.Names.{_-_, _*_, _≤_, arith, _++_, _≡_, refl, _∙_, length, drop, length-set, needs, lt-ltb, le-ltb}
 use Rattle.wire.specs.Line.{wordBytes}
 use Rattle.wire.proofs.LineLaws.{bytes-none, bytes-more}
-use Rattle.wire.proofs.write_bytes.Statement.{statement}
 use Rattle.wire.proofs.write_bytes.Tie as tie
 
 abbrev Inv-loop : tie.InvT-loop
@@ -29,7 +28,7 @@ returns-2 c =
     let z : length (a .words .now) - length (a .words .now) ≡ 0 = omega arith in
     l .inv .2 ∙ rw (e, z, le-ltb (length (a .room .now)) (2 * length (a .words .now)) (omega arith))
 
-pub write-bytes-spec : {M : Type 1} → statement M
+pub write-bytes-spec : {M : Type 1} → Rattle.wire.proofs.write_bytes.Statement.statement M
 write-bytes-spec =
     tie.close
     (tie.spec Inv-loop μ-loop (λ c. let a = c .before .args in rw (lt-ltb (length (a .room .now)) (2 * length (a .words .now)) (omega arith)))

@@ -3,7 +3,6 @@ use Rattle.ground.proofs.Names.{_-_, arith, _∙_, drop, Filled, filled-start, 
 use Rattle.wire.specs.Bits.{unpack, wordAt}
 use Rattle.wire.specs.Wire.{words}
 use Rattle.wire.proofs.BitLaws.{word-drop}
-use Rattle.wire.proofs.write_words.Statement.{statement}
 use Rattle.wire.proofs.write_words.Tie as tie
 
 abbrev Inv-loop : tie.InvT-loop
@@ -22,7 +21,7 @@ returns : tie.Need-returns Inv-loop μ-loop
 unfolding words
 returns c = filled-all (c .before .loop .inv) (omega arith)
 
-pub write-words-spec : {M : Type 1} → statement M
+pub write-words-spec : {M : Type 1} → Rattle.wire.proofs.write_words.Statement.statement M
 write-words-spec =
     tie.close
     (tie.spec Inv-loop μ-loop (λ c. filled-start) (λ c. omega arith) (λ c. omega arith) (λ c. omega arith) (λ c. omega arith) (λ c κs. omega arith)

@@ -1,7 +1,6 @@
 -- `wiring::packed_row` meets its contract. Assumes nothing.
 use Rattle.ground.proofs.Names.{arith, needs}
 use Rattle.wiring.proofs.Packing.{packed-row, no-row-packed}
-use Rattle.wiring.proofs.packed_row.Statement.{statement}
 use Rattle.wiring.proofs.packed_row.Tie as tie
 
 returns : tie.Need-returns
@@ -13,7 +12,7 @@ returns-2 c =
     rw (c .before .before .first-pins .ensures, c .before .middle-pins .ensures, c .last-pins .ensures)
     (packed-row (driven .before .args .display) (driven .before .args .cathode) (omega arith))
 
-pub packed-row-spec : {M : Type 1} → statement M
+pub packed-row-spec : {M : Type 1} → Rattle.wiring.proofs.packed_row.Statement.statement M
 packed-row-spec =
     tie.close
     (tie.spec returns (λ c κs. search needs) (λ c κs. search needs) (λ c κs. search needs) returns-2)

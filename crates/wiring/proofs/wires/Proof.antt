@@ -1,7 +1,6 @@
 -- `wiring::wires` meets its contract. Assumes nothing.
 use Rattle.ground.proofs.Names.{_∙_, tabulate, needs}
 use Rattle.wiring.proofs.Wired.{wired-row, no-row}
-use Rattle.wiring.proofs.wires.Statement.{statement}
 use Rattle.wiring.proofs.wires.Tie as tie
 
 returns : tie.Need-returns
@@ -11,6 +10,6 @@ returns-2 : tie.Need-returns-2
 unfolding tabulate
 returns-2 c = no-row (c .before .args .display) _ (c .if1 .left)
 
-pub wires-spec : {M : Type 1} → statement M
+pub wires-spec : {M : Type 1} → Rattle.wiring.proofs.wires.Statement.statement M
 wires-spec =
     tie.close (tie.spec (λ c κs. search needs) (λ c. search needs) (λ c. search needs) (λ c. search needs) (λ c κs. search needs) returns returns-2)

@@ -1,9 +1,8 @@
 -- `controls::Controls::written` meets its contract. Assumes nothing.
 use Rattle.ground.proofs.Names.{tests, needs}
-use Rattle.controls.proofs.Controls.written.Statement.{statement}
 use Rattle.controls.proofs.Controls.written.Tie as tie
 
-pub written-spec : {M : Type 1} → statement M
+pub written-spec : {M : Type 1} → Rattle.controls.proofs.Controls.written.Statement.statement M
 written-spec =
     tie.close
     (tie.spec (λ c. search needs) (λ c. search needs) (λ c. search needs) (λ c. search needs) (λ c. search needs) (λ c. search needs) (λ c. search needs)

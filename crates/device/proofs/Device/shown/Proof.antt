@@ -1,9 +1,8 @@
 -- `device::Device::shown` meets its contract. Assumes nothing.
 use Rattle.ground.proofs.Names.{needs}
-use Rattle.device.proofs.Device.shown.Statement.{statement}
 use Rattle.device.proofs.Device.shown.Tie as tie
 
-pub shown-spec : {M : Type 1} → statement M
+pub shown-spec : {M : Type 1} → Rattle.device.proofs.Device.shown.Statement.statement M
 shown-spec =
     tie.close
     (tie.spec (λ c κs. search needs) (λ c κs. search needs) (λ c κs. search needs)

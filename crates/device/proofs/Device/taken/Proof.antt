@@ -1,7 +1,6 @@
 -- `device::Device::taken` meets its contract. Assumes nothing.
 use Rattle.device.specs.Taken.{taken}
 use Rattle.ground.proofs.Names.{needs}
-use Rattle.device.proofs.Device.taken.Statement.{statement}
 use Rattle.device.proofs.Device.taken.Tie as tie
 
 returns : tie.Need-returns
@@ -12,7 +11,7 @@ returns-2 : tie.Need-returns-2
 unfolding taken
 returns-2 c = simp (c .before .before .before .before .before .with-shift .ensures, ← c .before .before .before .before .decode .ensures, c .before .before .register2 .given .1, c .answered .ensures)
 
-pub taken-spec : {M : Type 1} → statement M
+pub taken-spec : {M : Type 1} → Rattle.device.proofs.Device.taken.Statement.statement M
 taken-spec =
     tie.close
     (tie.spec (λ c κs. search needs) (λ c κs. search needs) (λ c. search needs) (λ c κs. search needs) (λ c. search needs) (λ c κs. search needs) returns

@@ -6,7 +6,6 @@ use Rattle.keys.specs.declared.Group.{Group}
 use Rattle.keys.proofs.Group.{the-type, the-field}
 use Rattle.keys.proofs.Bytewise.{at-places}
 use Rattle.keys.proofs.Together.{Bytes, four, scanned-packed}
-use Rattle.keys.proofs.Keys.scanned.Statement.{statement}
 use Rattle.keys.proofs.Keys.scanned.Tie as tie
 
 -- what a group holds are bytes, by its type
@@ -29,7 +28,7 @@ returns c =
     simp (c .unpacked .ensures, c .before .scanned .ensures, c .before .before .raised-or .ensures, c .before .before .before .raises .ensures, c .before .before .before .before .configured .ensures, c .before .before .before .before .before .joined .ensures, c .before .before .before .before .before .before .packed .ensures)
     (scanned-packed (s .args .self) (s .args .ports) (s .args .a) (s .args .b) (s .args .c) (s .args .d) (registers s) (closed s))
 
-pub scanned-spec : {M : Type 1} → statement M
+pub scanned-spec : {M : Type 1} → Rattle.keys.proofs.Keys.scanned.Statement.statement M
 scanned-spec =
     tie.close
     (tie.spec (λ c κs. search needs) (λ c κs. search needs) (λ c κs. search needs) (λ c κs. search needs) (λ c κs. search needs) (λ c κs. search needs)

@@ -1,12 +1,11 @@
 -- `registers::Registers::read` meets its contract. Assumes nothing.
 use Rattle.ground.proofs.Names.{needs}
-use Rattle.registers.proofs.Registers.read.Statement.{statement}
 use Rattle.registers.proofs.Registers.read.Tie as tie
 
 returns-5 : tie.Need-returns-5
 returns-5 c = simp (c .before .before .before .register .given .1, c .before .read .ensures, c .with-keys .ensures)
 
-pub read-spec : {M : Type 1} → statement M
+pub read-spec : {M : Type 1} → Rattle.registers.proofs.Registers.read.Statement.statement M
 read-spec =
     tie.close
     (tie.spec (λ c. search needs) (λ c. search needs) (λ c. search needs) (λ c. search needs) (λ c. search needs) (λ c κs. search needs) (λ c κs. search needs)

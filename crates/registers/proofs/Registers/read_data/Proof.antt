@@ -1,6 +1,5 @@
 -- `registers::Registers::read_data` meets its contract. Assumes nothing.
 use Rattle.ground.proofs.Names.{needs}
-use Rattle.registers.proofs.Registers.read_data.Statement.{statement}
 use Rattle.registers.proofs.Registers.read_data.Tie as tie
 
 returns-2 : tie.Need-returns-2
@@ -21,7 +20,7 @@ returns-7 c = simp (c .before .before .register4 .given .1, c .intensity .ensure
 returns-8 : tie.Need-returns-8
 returns-8 c = simp (c .before .before .register5 .given .1, c .digit .ensures)
 
-pub read-data-spec : {M : Type 1} → statement M
+pub read-data-spec : {M : Type 1} → Rattle.registers.proofs.Registers.read_data.Statement.statement M
 read-data-spec =
     tie.close
     (tie.spec (λ c. search needs) (λ c. search needs) (λ c κs. search needs) (λ c κs. search needs) (λ c. search needs) (λ c κs. search needs)

@@ -1,6 +1,5 @@
 -- `registers::Registers::written` meets its contract. Assumes nothing.
 use Rattle.ground.proofs.Names.{needs}
-use Rattle.registers.proofs.Registers.written.Statement.{statement}
 use Rattle.registers.proofs.Registers.written.Tie as tie
 
 returns-2 : tie.Need-returns-2
@@ -21,7 +20,7 @@ returns-8 c = simp (c .before .before .before .register4 .given .1, c .before .w
 returns-9 : tie.Need-returns-9
 returns-9 c = simp (c .before .before .before .register5 .given .1, c .before .both-written .ensures, c .with-planes2 .ensures)
 
-pub written-spec : {M : Type 1} → statement M
+pub written-spec : {M : Type 1} → Rattle.registers.proofs.Registers.written.Statement.statement M
 written-spec =
     tie.close
     (tie.spec (λ c. search needs) (λ c. search needs) (λ c κs. search needs) (λ c κs. search needs) (λ c. search needs) (λ c κs. search needs)

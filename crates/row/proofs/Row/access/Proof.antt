@@ -3,7 +3,6 @@ use Rattle.ground.proofs.Names.{_≡_, _∙_, needs}
 use Rattle.calls.specs.Calls.{access}
 use Rattle.row.specs.Row.{numberOn}
 use Rattle.row.proofs.RowLaws.{access-found, access-refused, access-done}
-use Rattle.row.proofs.Row.access.Statement.{statement}
 use Rattle.row.proofs.Row.access.Tie as tie
 
 -- the number that was found
@@ -28,7 +27,7 @@ returns-2 c =
     rw (c .all-taken .ensures, h .shift .ensures .0, h .shift .ensures .1, w .shift-words .ensures, f .before .before .length .ensures .0)
     (access-done (a .self) (a .clocks) (a .sent .now) (a .room .now) _ (number-is f) (w .before .if1 .left))
 
-pub access-spec : {M : Type 1} → statement M
+pub access-spec : {M : Type 1} → Rattle.row.proofs.Row.access.Statement.statement M
 access-spec =
     tie.close
     (tie.spec (λ c κs. search needs) (λ c κs. search needs) (λ c κs. search needs) (λ c κs. search needs) returns (λ c κs. search needs) (λ c. search needs)

@@ -2,7 +2,6 @@
 use Rattle.ground.proofs.Names.{_∙_, needs}
 use Rattle.calls.specs.Calls.{clocks}
 use Rattle.row.proofs.RowLaws.{give-refused, give-done}
-use Rattle.row.proofs.Row.add_clocks.Statement.{statement}
 use Rattle.row.proofs.Row.add_clocks.Tie as tie
 
 returns : tie.Need-returns
@@ -25,6 +24,6 @@ returns-2 c =
     rw (c .served .ensures, c .before .clocked .ensures, c .before .before .named .ensures)
     (give-done (a .self) (a .driver) (clocks (a .clocks)) _ _ (n .before .clocks-refusal .ensures) (n .number .ensures .0) (l .if1 .left))
 
-pub add-clocks-spec : {M : Type 1} → statement M
+pub add-clocks-spec : {M : Type 1} → Rattle.row.proofs.Row.add_clocks.Statement.statement M
 add-clocks-spec =
     tie.close (tie.spec (λ c κs. search needs) (λ c κs. search needs) (λ c κs. search needs) returns named-requires (λ c κs. search needs) served-requires returns-2)

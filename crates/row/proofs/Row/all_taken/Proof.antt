@@ -3,7 +3,6 @@ use Rattle.ground.proofs.Names.{_-_, _<_, arith, _≡_, refl, length, getD, nee
 use Rattle.device.specs.PowerUp.{powerUp}
 use Rattle.device.specs.Taken.{taken}
 use Rattle.row.proofs.Typed.{sixteen, default}
-use Rattle.row.proofs.Row.all_taken.Statement.{statement}
 use Rattle.row.proofs.Row.all_taken.Tie as tie
 
 abbrev Inv-loop : tie.InvT-loop
@@ -24,7 +23,7 @@ loop-again c =
 returns : tie.Need-returns Inv-loop μ-loop
 returns c = let l = c .before .loop in rw (← l .inv .0, ← filled-all (l .inv .1) (omega arith))
 
-pub all-taken-spec : {M : Type 1} → statement M
+pub all-taken-spec : {M : Type 1} → Rattle.row.proofs.Row.all_taken.Statement.statement M
 all-taken-spec =
     tie.close
     (tie.spec Inv-loop μ-loop (λ c. (refl, filled-start)) (λ c. search needs) (λ c. search needs) (λ c. search needs) (λ c. search needs) (λ c κs. search needs)

@@ -2,7 +2,6 @@
 use Rattle.ground.proofs.Names.{arith, _∙_, needs}
 use Rattle.pass.proofs.FoundLaws.{pass-le}
 use Rattle.row.proofs.RowLaws.{number-found}
-use Rattle.row.proofs.Row.found.Statement.{statement}
 use Rattle.row.proofs.Row.found.Tie as tie
 
 widths-requires : tie.Need-widths-requires
@@ -14,5 +13,5 @@ returns c =
     let a = p .before .before .args in
     c .found .ensures ∙ number-found (a .self) _ (p .before .length .ensures .0) (a .first) _ _ (p .to-pass .ensures) (c .before .widths .ensures)
 
-pub found-spec : {M : Type 1} → statement M
+pub found-spec : {M : Type 1} → Rattle.row.proofs.Row.found.Statement.statement M
 found-spec = tie.close (tie.spec (λ c κs. search needs) (λ c κs. search needs) widths-requires (λ c κs. search needs) returns)

@@ -2,7 +2,6 @@
 use Rattle.ground.proofs.Names.{arith}
 use Rattle.row.proofs.Typed.{sixteen}
 use Rattle.row.proofs.RowLaws.{length-short, length-long}
-use Rattle.row.proofs.Row.length.Statement.{statement}
 use Rattle.row.proofs.Row.length.Tie as tie
 
 returns : tie.Need-returns
@@ -15,5 +14,5 @@ returns-2 c =
     let s = c .before .before in
     (length-long (s .args .self) (sixteen (s .args .self) _ (s .good .0)) (omega arith), omega arith)
 
-pub length-spec : {M : Type 1} → statement M
+pub length-spec : {M : Type 1} → Rattle.row.proofs.Row.length.Statement.statement M
 length-spec = tie.close (tie.spec returns returns-2)

@@ -4,7 +4,6 @@ use Rattle.pass.specs.Found.{callRefusal}
 use Rattle.row.specs.Row.{records}
 use Rattle.row.proofs.Typed.{sixteen}
 use Rattle.row.proofs.RowLaws.{call-found, in-row}
-use Rattle.row.proofs.Row.number.Statement.{statement}
 use Rattle.row.proofs.Row.number.Tie as tie
 
 returns : tie.Need-returns
@@ -15,5 +14,5 @@ returns c =
     c .found .ensures ∙ call-found (a .self) _ (c .before .before .length .ensures .0) (a .driver) (a .own) _ (c .before .by-arguments .ensures) in
     (e, in-row (a .self) (sixteen (a .self) _ (s .good .0)) (a .driver) (a .own) _ e)
 
-pub number-spec : {M : Type 1} → statement M
+pub number-spec : {M : Type 1} → Rattle.row.proofs.Row.number.Statement.statement M
 number-spec = tie.close (tie.spec (λ c κs. search needs) (λ c κs. search needs) (λ c κs. search needs) returns)

@@ -2,7 +2,6 @@
 use Rattle.ground.proofs.Names.{_∙_, needs}
 use Rattle.calls.specs.Calls.{scan}
 use Rattle.row.proofs.RowLaws.{give-refused, give-done}
-use Rattle.row.proofs.Row.scan.Statement.{statement}
 use Rattle.row.proofs.Row.scan.Tie as tie
 
 returns : tie.Need-returns
@@ -25,6 +24,6 @@ returns-2 c =
     rw (c .served .ensures, c .before .scanned .ensures, c .before .before .named .ensures)
     (give-done (a .self) (a .driver) (scan (a .a) (a .b) (a .c) (a .d)) _ _ (n .before .scan-refusal .ensures) (n .number .ensures .0) (l .if1 .left))
 
-pub scan-spec : {M : Type 1} → statement M
+pub scan-spec : {M : Type 1} → Rattle.row.proofs.Row.scan.Statement.statement M
 scan-spec =
     tie.close (tie.spec (λ c κs. search needs) (λ c κs. search needs) (λ c κs. search needs) returns named-requires (λ c κs. search needs) served-requires returns-2)

@@ -2,7 +2,6 @@
 use Rattle.ground.proofs.Names.{_∙_, needs}
 use Rattle.calls.specs.Calls.{levels}
 use Rattle.row.proofs.RowLaws.{give-refused, give-done}
-use Rattle.row.proofs.Row.set_pins.Statement.{statement}
 use Rattle.row.proofs.Row.set_pins.Tie as tie
 
 returns : tie.Need-returns
@@ -25,6 +24,6 @@ returns-2 c =
     rw (c .served .ensures, c .before .with-pins .ensures, c .before .before .named .ensures)
     (give-done (a .self) (a .driver) (levels (a .levels)) _ _ (n .before .levels-refusal .ensures) (n .number .ensures .0) (l .if1 .left))
 
-pub set-pins-spec : {M : Type 1} → statement M
+pub set-pins-spec : {M : Type 1} → Rattle.row.proofs.Row.set_pins.Statement.statement M
 set-pins-spec =
     tie.close (tie.spec (λ c κs. search needs) (λ c κs. search needs) (λ c κs. search needs) returns named-requires (λ c κs. search needs) served-requires returns-2)

@@ -2,7 +2,6 @@
 use Rattle.ground.proofs.Names.{_-_, _<_, arith, length, getD, needs, Filled, filled-start, filled-more, filled-all}
 use Rattle.device.specs.PowerUp.{powerUp}
 use Rattle.row.proofs.Typed.{sixteen, default}
-use Rattle.row.proofs.Row.shift_words.Statement.{statement}
 use Rattle.row.proofs.Row.shift_words.Tie as tie
 
 abbrev Inv-loop : tie.InvT-loop
@@ -19,7 +18,7 @@ loop-again c =
     let h : l .k < length ds = omega (arith, sixteen (s .args .t1) _ (s .good .0)) in
     filled-more _ (l .inv) (omega arith) (omega arith) (rw (default _ powerUp ds (l .k) h))
 
-pub shift-words-spec : {M : Type 1} → statement M
+pub shift-words-spec : {M : Type 1} → Rattle.row.proofs.Row.shift_words.Statement.statement M
 shift-words-spec =
     tie.close
     (tie.spec Inv-loop μ-loop (λ c. filled-start) (λ c. search needs) (λ c. search needs) (λ c. search needs) (λ c. search needs) (λ c. search needs)

@@ -1,7 +1,6 @@
 -- `row::Row::show` meets its contract. Assumes nothing.
 use Rattle.ground.proofs.Names.{needs}
 use Rattle.row.proofs.RowLaws.{show-refused, show-done}
-use Rattle.row.proofs.Row.show.Statement.{statement}
 use Rattle.row.proofs.Row.show.Tie as tie
 
 returns : tie.Need-returns
@@ -20,6 +19,6 @@ returns-2 c =
     rw (c .before .segments .ensures, c .before .before .named .ensures)
     (show-done (a .self) (a .driver) (a .cathode) (a .font14 .now) (a .font16 .now) _ _ (n .before .segments-refusal .ensures) (n .number .ensures .0) (c .before .before .before .if1 .left))
 
-pub show-spec : {M : Type 1} → statement M
+pub show-spec : {M : Type 1} → Rattle.row.proofs.Row.show.Statement.statement M
 show-spec =
     tie.close (tie.spec (λ c κs. search needs) (λ c κs. search needs) returns named-requires (λ c κs. search needs) returns-2)

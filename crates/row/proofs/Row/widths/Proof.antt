@@ -4,7 +4,6 @@ use Rattle.device.specs.PowerUp.{powerUp}
 use Rattle.pass.specs.Widths.{noWidths, widthsOf}
 use Rattle.pass.proofs.WidthLaws.{widths-start, widths-more, fit-all}
 use Rattle.row.proofs.Typed.{sixteen, all-bytes, default}
-use Rattle.row.proofs.Row.widths.Statement.{statement}
 use Rattle.row.proofs.Row.widths.Tie as tie
 
 abbrev Inv-loop : tie.InvT-loop
@@ -32,7 +31,7 @@ returns c =
     let end : l .i ≡ a .n = omega arith in
     rw (l .inv .1, end) (fit-all (take (a .n) (a .t1 .devices)) (all-bytes (a .t1) _ (s .good .0) (a .n)))
 
-pub widths-spec : {M : Type 1} → statement M
+pub widths-spec : {M : Type 1} → Rattle.row.proofs.Row.widths.Statement.statement M
 widths-spec =
     tie.close
     (tie.spec Inv-loop μ-loop (λ c κs. search needs) loop-holds (λ c. search needs) (λ c. search needs) (λ c κs. search needs) (λ c. search needs)

@@ -2,7 +2,6 @@
 use Rattle.ground.proofs.Names.{arith, refl, needs}
 use Rattle.script.specs.Lines.{hexByte}
 use Rattle.script.proofs.RoomLaws.{written-length, both-written, length-each, answer-none, answer-some}
-use Rattle.script.proofs.lines.answer_line.Statement.{statement}
 use Rattle.script.proofs.lines.answer_line.Tie as tie
 
 returns : tie.Need-returns
@@ -19,7 +18,7 @@ returns-2 c =
     let end = both-written _ _ _ _ _ _ _ _ (c .before .before .before .before .before .before .before .hex-bytes .ensures) (c .before .before .text3 .ensures) in
     rw (answer-some _ (c .before .before .before .before .before .before .before .before .before .before .before .before .before .before .if1 .left)) (both-written _ _ _ _ _ _ _ _ (c .before .before .before .before .before .before .before .before .before .before .before .text2 .ensures) end)
 
-pub answer-line-spec : {M : Type 1} → statement M
+pub answer-line-spec : {M : Type 1} → Rattle.script.proofs.lines.answer_line.Statement.statement M
 answer-line-spec =
     tie.close
     (tie.spec (λ c. search needs) (λ c κs. search needs) (λ c. search needs) returns (λ c. search needs) (λ c κs. search needs) (λ c κs. search needs)

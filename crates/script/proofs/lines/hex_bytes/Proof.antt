@@ -2,7 +2,6 @@
 use Rattle.ground.proofs.Names.{_-_, towards-suc, arith, refl, length, length-set}
 use Rattle.script.specs.Lines.{hexByte}
 use Rattle.script.proofs.RoomLaws.{Texts, texts-start, texts-more, texts-all}
-use Rattle.script.proofs.lines.hex_bytes.Statement.{statement}
 use Rattle.script.proofs.lines.hex_bytes.Tie as tie
 
 abbrev Inv-loop : tie.InvT-loop
@@ -17,7 +16,7 @@ hex-digit-requires c κs = omega (arith, c .shared-slice-known2 .given (c .befor
 loop-again : tie.Need-loop-again Inv-loop μ-loop
 loop-again c = texts-more _ (c .before .before .before .before .loop .inv) (omega arith) refl (simp (towards-suc, c .before .hex-digit .ensures, c .hex-digit2 .ensures))
 
-pub hex-bytes-spec : {M : Type 1} → statement M
+pub hex-bytes-spec : {M : Type 1} → Rattle.script.proofs.lines.hex_bytes.Statement.statement M
 hex-bytes-spec =
     tie.close
     (tie.spec Inv-loop μ-loop (λ c. texts-start) (λ c. omega arith) hex-digit-requires (λ c. omega arith) (λ c κs. omega arith) (λ c. omega arith)

@@ -2,7 +2,6 @@
 use Rattle.ground.proofs.Names.{_-_, arith, refl, needs}
 use Rattle.script.specs.Lines.{pinText}
 use Rattle.script.proofs.RoomLaws.{Texts, texts-start, texts-more, texts-all}
-use Rattle.script.proofs.lines.letters.Statement.{statement}
 use Rattle.script.proofs.lines.letters.Tie as tie
 
 abbrev Inv-loop : tie.InvT-loop
@@ -17,7 +16,7 @@ loop-holds c = texts-start
 loop-again : tie.Need-loop-again Inv-loop μ-loop
 loop-again c = texts-more _ (c .before .before .loop .inv) (search needs) refl (simp (c .letter .ensures))
 
-pub letters-spec : {M : Type 1} → statement M
+pub letters-spec : {M : Type 1} → Rattle.script.proofs.lines.letters.Statement.statement M
 letters-spec =
     tie.close
     (tie.spec Inv-loop μ-loop loop-holds (λ c. omega arith) (λ c κs. search needs) (λ c. omega arith) (λ c. omega arith) (λ c. omega arith) (λ c. omega arith)

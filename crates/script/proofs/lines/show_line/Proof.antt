@@ -2,7 +2,6 @@
 use Rattle.ground.proofs.Names.{arith, _≡_, refl, length, needs}
 use Rattle.script.specs.Lines.{pinText}
 use Rattle.script.proofs.RoomLaws.{written-length, both-written, length-each}
-use Rattle.script.proofs.lines.show_line.Statement.{statement}
 use Rattle.script.proofs.lines.show_line.Tie as tie
 
 text-requires-2 : tie.Need-text-requires-2
@@ -16,7 +15,7 @@ text-requires-2 c κs =
 returns : tie.Need-returns
 returns c = both-written _ _ _ _ _ _ _ _ (c .before .before .before .before .before .before .before .before .before .before .before .before .text .ensures) (both-written _ _ _ _ _ _ _ _ (c .before .before .before .before .before .before .before .before .letters .ensures) (rw (c .before .before .before .before .before .mark-letter .ensures) at (c .before .before .text2 .ensures)))
 
-pub show-line-spec : {M : Type 1} → statement M
+pub show-line-spec : {M : Type 1} → Rattle.script.proofs.lines.show_line.Statement.statement M
 show-line-spec =
     tie.close
     (tie.spec (λ c. search needs) (λ c κs. search needs) (λ c κs. search needs) (λ c κs. search needs) (λ c. search needs) text-requires-2 (λ c. search needs)

@@ -5,5 +5,6 @@ pub mod Elements
 pub mod Places
 pub mod Parts
 pub mod Records
+pub mod Chain
 pub mod Params
 pub mod Arrays

@@ -1,10 +1,10 @@
 -- `lent::shift_words` meets its contract: a walk of its MIR, by hand. Both slices are opened once, before the loop. A turn copies one record out, stores its shift word and calls `with`.
 -- Assumes nothing.
-use Rattle.ground.proofs.Names.{arith, _++_, Option, none, ltb, take}
+use Rattle.ground.proofs.Names.{arith, none, take}
 use mathlib.Core.Option.{some}
 use denote.Struct.Laws as LL
 use Rattle.pass.proofs.Typed.{bytes-of}
-use Rattle.lent.proofs.Logic.{_≡_, refl, sym, ap, subst, ℕ, zero-le, _+_, _-_, _<_, _≤_, _^_, le-antisymm, List, [], _∷_, lit<, ltb→lt, nltb→le, length, getD, URA, fullShare, named, w64, tyPtr, tyBool, vint, SProp, emp, id⊢, via, fst∗, Lft, GName, Share, ftrue, fat, flft, Memory, Routine, Heap, Tables, Atoms, Fun, givenOf, tables, tablesOf, Given, ‵, _⊛_, _$_, _∵_, !, qed, move, keep, drop, split, join, rewrite, fsplit, fjoin, suffices, frame, done, look-in, look, init, store, store-raw, forget, stop, hop, from, load, lit, of-opd, bin, and-then, no-more, assigns, assigns-last, returns, enter, params1, pass1, pass0, fmOf, RattleType, owns, Is, shows, RefT, pureI, sliceVal, MutSlice, ShrSlice, Room, at-slice, slice-vals, mut-slice-tells, shr-slice-tells, row, opens-slice, closes-slice, looks-slice, shuts-slice, plain, nothing, owned, Bound, tripleOf, Triple, cited, says, Stays, stay-slice, goes-slice, ends-at, yes, Local, Body, tyRef, mut, imm, seq, block, loop, Val, vbool, Item, Post, runs, Sq, pointee, sliceTy, pureL, shrSliceOf, stay-dropped, goes-dropped}
+use Rattle.lent.proofs.Logic.{_≡_, refl, sym, ap, subst, ℕ, _+_, _<_, List, [], _∷_, lit<, length, getD, URA, fullShare, named, tyPtr, tyBool, SProp, emp, id⊢, via, fst∗, Lft, GName, Share, ftrue, fat, flft, Memory, Routine, Heap, Tables, Atoms, Fun, givenOf, tables, tablesOf, Given, ‵, _⊛_, _$_, _∵_, !, qed, move, keep, drop, split, join, rewrite, fsplit, fjoin, suffices, frame, done, look-in, look, init, store, store-raw, forget, stop, hop, from, load, lit, of-opd, and-then, no-more, assigns, returns, enter, params1, pass1, pass0, fmOf, RattleType, owns, Is, RefT, pureI, sliceVal, MutSlice, ShrSlice, Room, at-slice, slice-vals, mut-slice-tells, shr-slice-tells, row, opens-slice, closes-slice, plain, nothing, owned, Bound, tripleOf, Triple, cited, says, Stays, stay-slice, goes-slice, ends-at, yes, Local, tyRef, mut, pointee, sliceTy, pureL, shrSliceOf, stay-dropped, goes-dropped}
 use Rattle.device.specs.PowerUp.{powerUp}
 use Rattle.device.specs.declared.Device.{Device}
 use Rattle.device.proofs.Device as T
@@ -20,11 +20,11 @@ use Rattle.pass.proofs.to_pass_in as look′
 use Rattle.pass.proofs.found as last′
 use Rattle.pass.proofs.Widths.new as new
 use Rattle.pass.proofs.Widths.with as also
-use Rattle.lent.proofs.Records.{size, byte, half, half-sized, device, device-sized, widths, at-shift, local-shift}
-use Rattle.lent.proofs.Parts.{part, rest}
+use Rattle.lent.proofs.Records.{size, byte, half, half-sized, device, widths, at-shift, local-shift}
 use Rattle.lent.proofs.Locals.{span, values, envOf, held, starts, leaves, var, sets, lands-in, lands-over, start, count}
-use Rattle.lent.proofs.Elements.{points, takes-out, puts-in, copies}
-use Rattle.lent.proofs.Walk.{Walk, calls-value, tests, whiles, proves}
+use Rattle.lent.proofs.Elements.{points, takes-out, puts-in}
+use Rattle.lent.proofs.Chain.{chainTy, Spots, goes-over, copies-out}
+use Rattle.lent.proofs.Walk.{Walk, calls-value, proves}
 use Rattle.lent.proofs.shift_words as shift-words
 
 abbrev R : RattleType
@@ -46,7 +46,7 @@ shift-is d is = (refl, LL.owed T.the-type T′.the-laws d (device .val d ∷ [])
 
 -- the locals
 abbrev ls : List Local
-ls = values (byte .ty ∷ sliceTy (tyRef (named 0) imm (pointee (R .written))) ∷ byte .ty ∷ sliceTy (tyRef (named 1) mut (pointee (S .written))) ∷ size .ty ∷ widths .ty ∷ size .ty ∷ device .ty ∷ size .ty ∷ size .ty ∷ tyBool ∷ size .ty ∷ tyPtr ∷ device .ty ∷ tyPtr ∷ [])
+ls = values (byte .ty ∷ chainTy ∷ byte .ty ∷ sliceTy (tyRef (named 1) mut (pointee (S .written))) ∷ size .ty ∷ widths .ty ∷ size .ty ∷ device .ty ∷ size .ty ∷ size .ty ∷ tyBool ∷ size .ty ∷ tyPtr ∷ device .ty ∷ tyPtr ∷ [])
 
 -- the turns
 abbrev m : ℕ → List Device → List ℕ → ℕ
@@ -62,42 +62,6 @@ record Known {M : Type 1} (𝓤 : URA M) (H : Heap 𝓤) (A : Atoms 𝓤) (mem :
   new : Triple 𝓤 (𝓣 .C new.Symbol.name) (tripleOf 𝓤 H A new.signature (new.spec 𝓤 H A mem run))
   also : Triple 𝓤 (𝓣 .C also.Symbol.name) (tripleOf 𝓤 H A also.signature (also.spec 𝓤 H A mem run))
   last : Triple 𝓤 (𝓣 .C last′.Symbol.name) (tripleOf 𝓤 H A last′.signature (last′.spec 𝓤 H A mem run))
-
-module _ {M : Type 1} (𝓤 : URA M) (H : Heap 𝓤) (A : Atoms 𝓤) (W : Given 𝓤 H A) (mem : Memory → SProp 𝓤) (run : Routine → Fun 𝓤) (𝓣 : Tables 𝓤 H) (b o : ℕ) (ys : List Device) (first b₁ o₁ : ℕ) (ws : List ℕ) (l : ℕ → ℕ) (q′ : Share) where
-  -- the words where i are stored, the records, and the locals, vs from _10 on
-  abbrev At-turn : ℕ → List (Option Val) → List (Item 𝓤)
-  At-turn i vs = ‵ (row S fullShare (wordsTo ys ws i) b₁ o₁) ∷ ‵ (row R q′ ys b o) ∷ held 𝓤 (envOf ls l) (none ∷ some (sliceVal (b, o) (length ys)) ∷ some (byte .val first) ∷ some (sliceVal (b₁, o₁) (length ws)) ∷ some (size .val (m first ys ws)) ∷ some (widths .val (at ys i)) ∷ some (vint w64 i) ∷ none ∷ some (size .val (length ys)) ∷ some (size .val (length ws)) ∷ vs)
-
-  -- the loop's state: i records are looked at
-  abbrev At : Type 0
-  At = (i : ℕ) × ((i ≤ m first ys ws) × (IsWidths (at ys i) × AllBytes (take i ys)))
-
-  looped : Known 𝓤 H A mem run 𝓣 → Room R (length ys) → Room S (length ws) → IsWidths (at ys 0) → (Θ : List (Item 𝓤)) {after : Body} {p : Post 𝓤 H}
-      → (IsWidths (at ys (m first ys ws)) → AllBytes (take (m first ys ws) ys) → Sq W (At-turn (m first ys ws) (some (vbool (ltb (m first ys ws) (m first ys ws))) ∷ []) ++ Θ) (runs (𝓣 .C) (𝓣 .Λ) (envOf ls l) after p))
-      → Sq W (At-turn 0 [] ++ Θ) (runs (𝓣 .C) (𝓣 .Λ) (envOf ls l) (seq (block (loop (part (part (part (rest (rest (rest (rest (rest (shift-words.Code.function .body))))))))))) after) p)
-  looped known room room₁ is-none Θ {after} {p} ended =
-      whiles ! 𝓣 (λ (t : At). m first ys ws - t .0) (λ t. At-turn (t .0) []) Θ (0, (zero-le, (is-none, all-start ys))) (λ t Q again out.
-      -- [the words; the records; _0; _1; ..]
-      let i : ℕ = t .0 in
-      let e : Device = getD ys i powerUp in
-      sets ! (bin ! (var ! 8 refl refl) (var ! 6 refl refl) tt) 12 refl refl (tt, tt) $ tests ! (var ! 12 refl refl) (λ more.
-      let l′ : i < m first ys ws = ltb→lt i (m first ys ws) more in
-      let below = pass-in-below first (length ys) (length ws) i l′ in
-      let long : i < length (wordsTo ys ws i) = omega (arith, below .1, length-words ys ws i (omega (arith, below .1))) in
-      let fits : i + 1 < 2 ^ 64 = omega (arith, below .0, room .0) in
-      let step : widthsWith (at ys i) e ≡ at ys (i + 1) = widths-more ys i (below .0) in
-      move ! (1 ∷ 0 ∷ []) $ copies ! device device-sized q′ ys i (length ys) powerUp b o (below .0) (room .1) (below .0) (var ! 8 refl refl) (from ! (stop !)) (λ wt. init ! 13 refl wt) (start ! 3 refl refl) (var ! 13 refl refl) (from ! (stop !)) (init ! 14 refl (tt, tt)) (from ! (hop ! (look ! 16 refl) (stop !))) (from ! (stop !)) (λ wt. init ! 17 refl wt) (λ is-e. move ! (1 ∷ 0 ∷ []) $
-      sets ! (of-opd ! (var ! 15 refl refl)) 9 refl refl (device .typed 𝓤 H A W e is-e) $
-      points ! 2 tt i (length ws) b₁ o₁ (below .1) (room₁ .1) (var ! 8 refl refl) (from ! (stop !)) (λ wt. store ! 13 refl wt) (start ! 5 refl refl) (var ! 13 refl refl) (from ! (stop !)) (init ! 16 refl (tt, tt)) $
-      takes-out ! half half-sized fullShare (wordsTo ys ws i) i 0 b₁ o₁ long (λ _. assigns ! (of-opd ! (load ! (from ! (at-shift !)) (look-in ! 11 (local-shift !)))) (from ! (hop ! (look ! 18 refl) (stop !))) (store-raw ! 0 refl (half .typed 𝓤 H A W (e .shift) (shift-is e is-e))) $
-      puts-in ! half half-sized fullShare (wordsTo ys ws i) i 0 (e .shift) b₁ o₁ long (shift-is e is-e) $ rewrite ! 0 (λ (l : List ℕ). ‵ (row S fullShare l b₁ o₁)) (words-more ys ws i (below .1)) refl $
-      calls-value ! (fmOf 𝓤 H (W .laws) 𝓣) (widths ∷ device ∷ []) widths (λ _. emp 𝓤) (λ a. widthsWith (a .0) (a .1 .0)) (known .also) (at ys i, (e, tt)) (t .1 .1 .0, (is-e, tt)) (id⊢ 𝓤 _) (and-then ! (var ! 8 refl refl) (and-then ! (var ! 10 refl refl) (no-more !))) (λ is-next wt-next.
-      lands-over ! 7 refl refl wt-next $ rewrite ! 7 (λ (s : Widths). ‵ (fat fullShare (widths .ty) (l 5) 0 (widths .val s))) step refl $
-      assigns-last ! (bin ! (var ! 8 refl refl) (lit ! tt) (record { fits = fits })) (from ! (stop !)) (store ! 8 refl (tt, record { fits = fits })) $ forget ! 9 refl $ forget ! 12 refl $ forget ! 13 refl $ forget ! 14 refl $ forget ! 15 refl $ forget ! 16 refl $
-      again (i + 1, (omega (arith, l′), (subst IsWidths step is-next, all-more ys i (below .0) (t .1 .1 .1) (bytes-of e _ is-e)))) (omega (arith, l′))))))
-      (λ stops. out _ $
-      let same : i ≡ m first ys ws = le-antisymm (t .1 .0) (nltb→le i (m first ys ws) stops) in
-      subst (λ (j : ℕ). Sq W (At-turn j (some (vbool (ltb j (m first ys ws))) ∷ []) ++ Θ) (runs (𝓣 .C) (𝓣 .Λ) (envOf ls l) after p)) (sym same) (ended (subst (λ (j : ℕ). IsWidths (at ys j)) same (t .1 .1 .0)) (subst (λ (j : ℕ). AllBytes (take j ys)) same (t .1 .1 .1)))))
 
 module _ {M : Type 1} (𝓤 : URA M) (H : Heap 𝓤) (A : Atoms 𝓤) (W : Given 𝓤 H A) (mem : Memory → SProp 𝓤) (run : Routine → Fun 𝓤) (κ κ₁ : Lft) (q q₁ : Share) (b o : ℕ) (γ : GName) (ys : List Device) (first : ℕ) (b₁ o₁ : ℕ) (γ₁ : GName) (ws : List ℕ) where
   abbrev nr : ℕ
@@ -122,22 +86,32 @@ module _ {M : Type 1} (𝓤 : URA M) (H : Heap 𝓤) (A : Atoms 𝓤) (W : Given
       (and-then ! (var ! 3 refl refl) (and-then ! (var ! 9 refl refl) (and-then ! (var ! 10 refl refl) (no-more !)))) (λ is-m wt-m. lands-in ! 4 refl refl wt-m $
       calls-value ! (fmOf 𝓤 H (W .laws) 𝓣) [] widths (λ _. emp 𝓤) (λ _. noWidths) (known .new) tt tt (id⊢ 𝓤 _) (no-more !) (λ is-none wt-none. lands-in ! 5 refl refl wt-none $ rewrite ! 5 (λ (s : Widths). ‵ (fat fullShare (widths .ty) (l 5) 0 (widths .val s))) (widths-start ys) refl $
       sets ! (of-opd ! (lit ! tt)) 6 refl refl (tt, record { fits = lit< tt }) $
-      move ! (17 ∷ 16 ∷ []) $ fsplit ! $ fsplit ! $ pureL ! (at-slice R x (slice-vals x)) (λ _. fsplit ! $ move ! (3 ∷ []) $ split ! $ move ! (3 ∷ 0 ∷ []) $
-      looks-slice ! tt R (Is R) (shows 𝓤 H A R) (λ d. device .val d ∷ []) (device .tells) (LL.copy T.the-type T′.the-copy 𝓤 H A W) ys b o (λ q′.
-      -- [the records; the open borrow; the borrow; the other token; res; what the others own; _0; _1; ..]
-      move ! (5 ∷ []) $ fsplit ! $ drop ! $ fsplit ! $ fsplit ! $ pureL ! (at-slice S (ref ws) (slice-vals (ref ws))) (λ _. fsplit ! $ move ! (6 ∷ []) $ split ! $ move ! (2 ∷ 3 ∷ 0 ∷ []) $ opens-slice ! tt S ws b₁ o₁ $
-      -- [the words; their open borrow; obs; auth; true; true; the records; the open borrow; the borrow; res; _0, from 10; ..; _14; that they die]
-      rewrite ! 0 (λ (l : List ℕ). ‵ (row S fullShare l b₁ o₁)) (words-start ys ws) refl $ move ! (0 ∷ 6 ∷ span 10 16) $
-      looped 𝓤 H A W mem run 𝓣 b o ys first b₁ o₁ ws l q′ known room room₁ (subst IsWidths (widths-start ys) is-none) _ (λ is-all bytes.
-      let long : length (wordsTo ys ws (m first ys ws)) ≡ length ws = length-words ys ws (m first ys ws) (pass-in-le first (length ys) (length ws)) in
-      calls-value ! (fmOf 𝓤 H (W .laws) 𝓣) (byte ∷ widths ∷ []) byte (λ _. emp 𝓤) (λ a. found (a .0) (fit (a .1 .0))) (known .last) (first, (at ys (m first ys ws), tt)) (is-first, (is-all, tt)) (id⊢ 𝓤 _) (and-then ! (var ! 5 refl refl) (and-then ! (var ! 8 refl refl) (no-more !))) (λ is-r wt-r. lands-in ! 2 refl refl wt-r $
-      -- [the words; the records; _0; ..; _14; that they die, at 17; the words' open borrow; obs; auth; true; true; the open borrow; the borrow; res]
-      move ! (0 ∷ 18 ∷ 19 ∷ 20 ∷ []) $ closes-slice ! tt S ws (wordsTo ys ws (m first ys ws)) long b₁ o₁ $ move ! (3 ∷ 22 ∷ []) $ shuts-slice ! tt R q′ ys b o $
-      -- [the chain's token; obs; the words' borrow; their token; _0; ..]
-      returns ! (look ! 4 refl) $ move ! (span 4 16) $ leaves W dies (some _ ∷ some _ ∷ some _ ∷ some _ ∷ some _ ∷ some _ ∷ some _ ∷ none ∷ some _ ∷ some _ ∷ some _ ∷ []) ! $ keep ! (0 ∷ 1 ∷ 2 ∷ 3 ∷ []) $
-      suffices ! _ (ends-at 𝓤 H A shift-words.ended stayed (shift-words.clauses 𝓤 H A mem run) W (y, tt) (byte .val nr) nr (tt, (tt, (wordsTo ys ws (m first ys ws), tt))) (tt, (tt, (long, tt)))) $ says ! (ap (found first) (fit-all (take (m first ys ws) ys) bytes), refl) $
+      move ! (17 ∷ 16 ∷ []) $ fsplit ! $ move ! (1 ∷ []) $ fsplit ! $ drop ! $ fsplit ! $ fsplit ! $ pureL ! (at-slice S (ref ws) (slice-vals (ref ws))) (λ _. fsplit ! $ move ! (4 ∷ []) $ split ! $ move ! (1 ∷ []) $ split ! $ move ! (3 ∷ 4 ∷ 0 ∷ []) $ opens-slice ! tt S ws b₁ o₁ $
+      -- [the words; their open borrow; obs; auth; true; the chain's token; true; what the chain owns; _0, at 8; ..; _14; that they die]
+      rewrite ! 0 (λ (l : List ℕ). ‵ (row S fullShare l b₁ o₁)) (words-start ys ws) refl $
+      let spots : Spots 𝓤 H (envOf ls l) 1 4 6 10 11 12 13 = record { at = λ k. getD (l 1 ∷ l 4 ∷ l 6 ∷ l 10 ∷ l 11 ∷ l 12 ∷ l 13 ∷ []) k 0; chain = refl; end = refl; count = refl; test = refl; scaled = refl; pointer = refl; copied = refl } in
+      move ! (5 ∷ 7 ∷ 9 ∷ 12 ∷ 14 ∷ 18 ∷ 19 ∷ 20 ∷ 21 ∷ 0 ∷ 13 ∷ 11 ∷ 15 ∷ 22 ∷ []) $
+      goes-over spots ! 𝓣 x room (m first ys ws) (λ i l. pass-in-below first (length ys) (length ws) i l .0) (λ i. IsWidths (at ys i) × AllBytes (take i ys)) (subst IsWidths (widths-start ys) is-none, all-start ys)
+      (λ i. ‵ (row S fullShare (wordsTo ys ws i) b₁ o₁) ∷ held 𝓤 ((widths .ty, l 5) ∷ (sliceTy (tyRef (named 1) mut (pointee (S .written))), l 3) ∷ (device .ty, l 7) ∷ (tyPtr, l 14) ∷ []) (some (widths .val (at ys i)) ∷ some (sliceVal (b₁, o₁) (length ws)) ∷ [])) _ (λ q′ B i l′ good Q next.
+      let below = pass-in-below first (length ys) (length ws) i l′ in
+      let e : Device = getD ys i powerUp in
+      let long : i < length (wordsTo ys ws i) = omega (arith, below .1, length-words ys ws i (omega (arith, below .1))) in
+      let step : widthsWith (at ys i) e ≡ at ys (i + 1) = widths-more ys i (below .0) in
+      -- [the records; their open borrow; _1; _4; _6; _10; ..; _13; the words; _5; _3; _7; _14]
+      copies-out spots ! q′ x i (below .0) room (λ is-e. sets ! (of-opd ! (var ! 8 refl refl)) 12 refl refl (device .typed 𝓤 H A W e is-e) $
+      points ! 2 tt i (length ws) b₁ o₁ (below .1) (room₁ .1) (var ! 4 refl refl) (from ! (stop !)) (λ wt. store ! 6 refl wt) (start ! 11 refl refl) (var ! 6 refl refl) (from ! (stop !)) (init ! 13 refl (tt, tt)) $
+      move ! (9 ∷ []) $ takes-out ! half half-sized fullShare (wordsTo ys ws i) i 0 b₁ o₁ long (λ _. assigns ! (of-opd ! (load ! (from ! (at-shift !)) (look-in ! 14 (local-shift !)))) (from ! (hop ! (look ! 15 refl) (stop !))) (store-raw ! 0 refl (half .typed 𝓤 H A W (e .shift) (shift-is e is-e))) $
+      puts-in ! half half-sized fullShare (wordsTo ys ws i) i 0 (e .shift) b₁ o₁ long (shift-is e is-e) $ rewrite ! 0 (λ (l : List ℕ). ‵ (row S fullShare l b₁ o₁)) (words-more ys ws i (below .1)) refl $
+      calls-value ! (fmOf 𝓤 H (W .laws) 𝓣) (widths ∷ device ∷ []) widths (λ _. emp 𝓤) (λ a. widthsWith (a .0) (a .1 .0)) (known .also) (at ys i, (e, tt)) (good .0, (is-e, tt)) (id⊢ 𝓤 _) (and-then ! (var ! 11 refl refl) (and-then ! (var ! 13 refl refl) (no-more !))) (λ is-next wt-next.
+      lands-over ! 10 refl refl wt-next $ rewrite ! 10 (λ (s : Widths). ‵ (fat fullShare (widths .ty) (l 5) 0 (widths .val s))) step refl $ forget ! 12 refl $ forget ! 13 refl $ move ! (span 1 9) $ next (subst IsWidths step is-next, all-more ys i (below .0) (good .1) (bytes-of e _ is-e)) _))))
+      -- [the chain's token; _1; _4; _6; _10; ..; _13; the words, at 8; _5; _3; _7; _14; their open borrow; obs; auth; true; true; _0, at 18; _2; _8; _9; that they die]
+      (λ good. let long : length (wordsTo ys ws (m first ys ws)) ≡ length ws = length-words ys ws (m first ys ws) (pass-in-le first (length ys) (length ws)) in
+      calls-value ! (fmOf 𝓤 H (W .laws) 𝓣) (byte ∷ widths ∷ []) byte (λ _. emp 𝓤) (λ a. found (a .0) (fit (a .1 .0))) (known .last) (first, (at ys (m first ys ws), tt)) (is-first, (good .0, tt)) (id⊢ 𝓤 _) (and-then ! (var ! 20 refl refl) (and-then ! (var ! 10 refl refl) (no-more !))) (λ is-r wt-r. lands-in ! 18 refl refl wt-r $
+      move ! (8 ∷ 13 ∷ 14 ∷ 15 ∷ []) $ closes-slice ! tt S ws (wordsTo ys ws (m first ys ws)) long b₁ o₁ $ returns ! (look ! 17 refl) $
+      move ! (17 ∷ 4 ∷ 18 ∷ 12 ∷ 5 ∷ 11 ∷ 6 ∷ 13 ∷ 19 ∷ 20 ∷ 7 ∷ 8 ∷ 9 ∷ 10 ∷ 14 ∷ 21 ∷ []) $ leaves W dies (some _ ∷ some _ ∷ some _ ∷ some _ ∷ some _ ∷ some _ ∷ some _ ∷ none ∷ some _ ∷ some _ ∷ some _ ∷ []) ! $ keep ! (3 ∷ 0 ∷ 1 ∷ 2 ∷ []) $
+      suffices ! _ (ends-at 𝓤 H A shift-words.ended stayed (shift-words.clauses 𝓤 H A mem run) W (y, tt) (byte .val nr) nr (tt, (tt, (wordsTo ys ws (m first ys ws), tt))) (tt, (tt, (long, tt)))) $ says ! (ap (found first) (fit-all (take (m first ys ws) ys) (good .1)), refl) $
       nothing ! $ move ! (4 ∷ 0 ∷ []) $ join ! $ move ! (1 ∷ 0 ∷ []) $ join ! $ frame ! $ fjoin ! $ pureI ! (at-slice S (ref (wordsTo ys ws (m first ys ws))) (slice-vals (ref ws))) (tt, (tt, tt)) (ap (λ (k : ℕ). sliceVal (b₁, o₁) k ∷ []) (sym long), subst (Room S) (sym long) room₁) $
-      fjoin ! $ nothing ! $ move ! (1 ∷ 0 ∷ []) $ fjoin ! $ nothing ! $ fjoin ! $ nothing ! $ fjoin ! $ frame ! $ owned ! (byte .row) (Is (byte .row)) (byte .makes 𝓤 H A W) nr _ is-r $ done !))))))))
+      fjoin ! $ nothing ! $ move ! (1 ∷ 0 ∷ []) $ fjoin ! $ nothing ! $ fjoin ! $ nothing ! $ fjoin ! $ frame ! $ owned ! (byte .row) (Is (byte .row)) (byte .makes 𝓤 H A W) nr _ is-r $ done !))))))
 
 pub shift-words-spec : {M : Type 1} → shift-words.Statement.statement M
 unfolding shift-words.Code.routine tablesOf

@@ -2,7 +2,7 @@
 -- Assumes nothing.
 use Rattle.ground.proofs.Names.{_++_, Holds, take, replicate}
 use mathlib.Core.Option.{some as holds}
-use Rattle.lent.proofs.Logic.{_≡_, refl, sym, ap, _∙_, subst, ℕ, List, [], _∷_, lit<, length, URA, fullShare, named, SProp, emp, id⊢, via, fst∗, Lft, GName, Share, ftrue, fat, flft, Memory, Routine, Heap, Tables, Atoms, Fun, givenOf, tables, tablesOf, Given, ‵, _⊛_, _$_, _∵_, !, qed, move, drop, split, join, rewrite, fsplit, fjoin, suffices, frame, done, look, init, forget, stop, from, lit, of-opd, bin, and-then, no-more, returns, enter, params1, pass1, pass0, fmOf, RattleType, owns, Is, shows, RefT, sliceVal, MutSlice, ShrSlice, Room, slice-vals, mut-slice-tells, shr-slice-tells, row, plain, nothing, owned, Bound, tripleOf, Triple, cited, says, Stays, ends-at, yes, raw, use1, use2, feqL, agg, addr, finally, onEntry, gave-slice, goes-gave-slice, Local, local, memorySlot, w16, tyBool, tyUnit, tyRef, tyArray, erased, mut, imm, Place, Operand, Body, seq, Val, vunit, WT, hasTy, flent, Env, Calls, Loops, FmC, Item, put, some, later, Go, Sq, Post, runs, lands, await, pick, feqI, rep, Opds, arr-parts, lft-new, lft-end, lent-back, Array, array-repeat, array-lawful, Held, lends-shr-slice, shares, pointee, uint-copy, uint-lawful, shrSliceOf, sliceTy, peeks, only, stay-dropped, goes-dropped, call}
+use Rattle.lent.proofs.Logic.{_≡_, refl, sym, ap, _∙_, subst, ℕ, List, [], _∷_, lit<, length, URA, fullShare, named, SProp, emp, id⊢, via, fst∗, Lft, GName, Share, ftrue, fat, flft, Memory, Routine, Heap, Tables, Atoms, Fun, givenOf, tables, tablesOf, Given, ‵, _⊛_, _$_, _∵_, !, qed, move, drop, split, join, rewrite, fsplit, fjoin, suffices, frame, done, look, init, forget, stop, from, lit, of-opd, bin, and-then, no-more, returns, enter, params1, pass1, pass0, fmOf, RattleType, owns, Is, shows, RefT, sliceVal, MutSlice, ShrSlice, Room, slice-vals, mut-slice-tells, shr-slice-tells, row, plain, nothing, owned, Bound, tripleOf, Triple, says, Stays, ends-at, yes, raw, use1, use2, feqL, agg, addr, finally, onEntry, gave-slice, goes-gave-slice, Local, local, memorySlot, w16, tyBool, tyUnit, tyRef, tyArray, erased, mut, imm, Place, Operand, Body, seq, Val, vunit, WT, hasTy, flent, Env, Calls, Loops, FmC, Item, put, some, later, Go, Sq, Post, runs, lands, await, pick, feqI, rep, Opds, arr-parts, lft-new, lft-end, lent-back, Array, array-repeat, array-lawful, Held, lends-shr-slice, shares, pointee, uint-copy, uint-lawful, shrSliceOf, sliceTy, peeks, only, stay-dropped, goes-dropped, call}
 use Rattle.device.specs.declared.Device.{Device}
 use Rattle.calls.specs.Calls.{access as accessCall}
 use Rattle.calls.specs.CallRefusals.{allSound}
@@ -212,5 +212,5 @@ max6954-access-spec 𝓤 H 𝓜 𝓖 𝓡 =
     (goes-gave-slice 𝓤 H (𝓖 .A) W 3 0 tt (plain (λ _. R)), (goes-dropped 𝓤 H (𝓖 .A) W 3 (plain (λ _. size .row)) yes (λ κs x f. refl), (goes-dropped 𝓤 H (𝓖 .A) W 3 (shrSliceOf (1 ∷ []) tt (plain (λ _. byte .row))) yes (λ κs x f. refl), (goes-gave-slice 𝓤 H (𝓖 .A) W 3 2 tt (plain (λ _. byte .row)), tt))))
     access.Key.name access.Code.function (access.Code.unfolded 𝓤 H 𝓜 𝓡) (λ κs. (slice-vals, ((λ n. size .val n ∷ []), (slice-vals, (slice-vals, tt))))) (λ κs. (mut-slice-tells (named 0) (κs .0) R, (size .tells, (shr-slice-tells (named 1) (κs .1 .0) (byte .row), (mut-slice-tells (named 2) (κs .1 .1 .0) (byte .row), tt)))))
     (λ κs qs bounds a g are. via 𝓤 _ (fst∗ 𝓤 _ (emp 𝓤)) (walk 𝓤 H (𝓖 .A) W (𝓜 .mem) (𝓡 .run) (κs .0) (κs .1 .0) (κs .1 .1 .0) (qs .0) (qs .1 .0) (qs .1 .1 .0) (a .0 .ptr .0) (a .0 .ptr .1) (a .0 .name) (a .0 .now) (a .1 .0) (a .1 .1 .0) (a .1 .1 .1 .0) (tablesOf 𝓤 H 𝓜 (tables 𝓤 H 𝓜 𝓡 access.Code.env))
-    (cited 𝓤 H _ 𝓜 𝓡 access.Code.env early′.Symbol.name early′.Symbol.routine access.Code.calls-pass·access-by-arguments (early′.Met.met 𝓤 H 𝓜 𝓖 𝓡)) (cited 𝓤 H _ 𝓜 𝓡 access.Code.env looked.Symbol.name looked.Symbol.routine access.Code.calls-lent·shift-words (looked.Met.met 𝓤 H 𝓜 𝓖 𝓡))
-    (cited 𝓤 H _ 𝓜 𝓡 access.Code.env shift.Symbol.name shift.Symbol.routine access.Code.calls-wire·shift (shift.Met.met 𝓤 H 𝓜 𝓖 𝓡)) (cited 𝓤 H _ 𝓜 𝓡 access.Code.env taking.Symbol.name taking.Symbol.routine access.Code.calls-lent·take-words (taking.Met.met 𝓤 H 𝓜 𝓖 𝓡)) (are .0 .0 .1) (are .1 .0) (are .1 .1 .0 .0 .1) (are .1 .1 .1 .0 .0 .1)))
+    (early′.Met.met 𝓤 H 𝓜 𝓖 𝓡) (looked.Met.met 𝓤 H 𝓜 𝓖 𝓡)
+    (shift.Met.met 𝓤 H 𝓜 𝓖 𝓡) (taking.Met.met 𝓤 H 𝓜 𝓖 𝓡) (are .0 .0 .1) (are .1 .0) (are .1 .1 .0 .0 .1) (are .1 .1 .1 .0 .0 .1)))

@@ -4,7 +4,6 @@ use Rattle.ground.proofs.Names.{_≡_, [], _∷_}
 use Rattle.calls.specs.Calls.{interrupt}
 use Rattle.lent.proofs.Params.{held}
 use Rattle.chain.proofs.Answers.{interruptAnswer}
-use Rattle.lent.proofs.Logic.{cited}
 use Rattle.lent.proofs.call_refusal as number
 use Rattle.pass.proofs.interrupt_refusal as own
 use Rattle.answers.proofs.interrupt_refused as refused
@@ -19,6 +18,4 @@ max6954-interrupt-spec 𝓤 H 𝓜 𝓖 𝓡 =
     (λ r ds x. x ≡ record { number = r .number; records = ds; back = r .raised ∷ [] })
     (λ p r. r ≡ record { number = p .0; raised = 0 }) (λ n p r ds e. rw e)
     (λ p r. r ≡ record { number = 0; raised = p .0 .registers .keys .interrupt }) (λ d p r ds z e. rw e)
-    𝓤 H 𝓜 𝓖 𝓡 this.Code.env this.Key.name (this.Code.unfolded 𝓤 H 𝓜 𝓡) (cited 𝓤 H _ 𝓜 𝓡 this.Code.env number.Symbol.name number.Symbol.routine this.Code.calls-lent·call-refusal (number.Met.met 𝓤 H 𝓜 𝓖 𝓡))
-    (cited 𝓤 H _ 𝓜 𝓡 this.Code.env own.Symbol.name own.Symbol.routine this.Code.calls-pass·interrupt-refusal (own.Met.met 𝓤 H 𝓜 𝓖 𝓡)) (cited 𝓤 H _ 𝓜 𝓡 this.Code.env refused.Symbol.name refused.Symbol.routine this.Code.calls-answers·interrupt-refused (refused.Met.met 𝓤 H 𝓜 𝓖 𝓡))
-    (cited 𝓤 H _ 𝓜 𝓡 this.Code.env work.Symbol.name work.Symbol.routine this.Code.calls-answers·interrupt (work.Met.met 𝓤 H 𝓜 𝓖 𝓡))
+    𝓤 H 𝓜 𝓖 𝓡 this.Code.env this.Key.name (this.Code.unfolded 𝓤 H 𝓜 𝓡) (number.Met.met 𝓤 H 𝓜 𝓖 𝓡) (own.Met.met 𝓤 H 𝓜 𝓖 𝓡) (refused.Met.met 𝓤 H 𝓜 𝓖 𝓡) (work.Met.met 𝓤 H 𝓜 𝓖 𝓡)

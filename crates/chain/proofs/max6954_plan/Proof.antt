@@ -1,7 +1,7 @@
 -- `chain::max6954_plan` meets its contract: a walk of its MIR, by hand. The chain and the wanted contents are passed to `accesses` and, with the list, to `write_list`.
 -- Assumes nothing.
 use Rattle.ground.proofs.Names.{eqb, Holds, if}
-use Rattle.lent.proofs.Logic.{_≡_, refl, sym, ap, subst, ℕ, List, [], _∷_, lit<, length, URA, named, SProp, emp, id⊢, via, fst∗, Lft, Share, ftrue, flft, Memory, Routine, Heap, Tables, Atoms, Fun, givenOf, tables, tablesOf, Given, ‵, raw, _⊛_, _$_, _∵_, !, qed, move, drop, use1, use2, feqL, split, join, rewrite, fsplit, fjoin, suffices, frame, done, agg, whole, sub, look-in, look, init, store, stop, hop, fld, from, load, lit, of-opd, addr, and-then, no-more, assigns, land, returns, enter, alloc1, alloc0, params1, pass1, pass0, free0, fmOf, RattleType, owns, Is, RefT, ShrSlice, MutSlice, Room, finally, slice-vals, shr-slice-tells, mut-slice-tells, plain, nothing, owned, onEntry, Bound, tripleOf, Triple, cited, says, Stays, gave-slice, goes-gave-slice, ends-at, yes, tyUnit, Val, vunit, WT, hasTy, shrSliceOf, shr-slice-copy, only, stay-dropped, goes-dropped}
+use Rattle.lent.proofs.Logic.{_≡_, refl, sym, ap, subst, ℕ, List, [], _∷_, lit<, length, URA, named, SProp, emp, id⊢, via, fst∗, Lft, Share, ftrue, flft, Memory, Routine, Heap, Tables, Atoms, Fun, givenOf, tables, tablesOf, Given, ‵, raw, _⊛_, _$_, _∵_, !, qed, move, drop, use1, use2, feqL, split, join, rewrite, fsplit, fjoin, suffices, frame, done, agg, whole, sub, look-in, look, init, store, stop, hop, fld, from, load, lit, of-opd, addr, and-then, no-more, assigns, land, returns, enter, alloc1, alloc0, params1, pass1, pass0, free0, fmOf, RattleType, owns, Is, RefT, ShrSlice, MutSlice, Room, finally, slice-vals, shr-slice-tells, mut-slice-tells, plain, nothing, owned, onEntry, Bound, tripleOf, Triple, says, Stays, gave-slice, goes-gave-slice, ends-at, yes, tyUnit, Val, vunit, WT, hasTy, shrSliceOf, shr-slice-copy, only, stay-dropped, goes-dropped}
 use Rattle.refusals.specs.Refusals.{wantedRefusal, listRefusal, firstOf}
 use Rattle.device.specs.declared.Device.{Device}
 use Rattle.pass.specs.Found.{toPass}
@@ -116,6 +116,6 @@ max6954-plan-spec 𝓤 H 𝓜 𝓖 𝓡 =
     proves 𝓤 H 𝓜 𝓖 𝓡 planning.Code.env planning.ended stayed (planning.clauses 𝓤 H (𝓖 .A) (𝓜 .mem) (𝓡 .run)) (goes-dropped 𝓤 H (𝓖 .A) W 3 (shrSliceOf (0 ∷ []) tt (plain (λ _. R))) yes (λ κs x f. refl), (goes-dropped 𝓤 H (𝓖 .A) W 3 (shrSliceOf (1 ∷ []) tt (plain (λ _. byte .row))) yes (λ κs x f. refl), (goes-gave-slice 𝓤 H (𝓖 .A) W 3 2 tt (plain (λ _. S)), tt)))
     planning.Key.name planning.Code.function (planning.Code.unfolded 𝓤 H 𝓜 𝓡) (λ κs. (slice-vals, (slice-vals, (slice-vals, tt)))) (λ κs. (shr-slice-tells (named 0) (κs .0) R, (shr-slice-tells (named 1) (κs .1 .0) (byte .row), (mut-slice-tells (named 2) (κs .1 .1 .0) S, tt))))
     (λ κs qs bounds a g are. via 𝓤 _ (fst∗ 𝓤 _ (emp 𝓤)) (walk 𝓤 H (𝓖 .A) W (𝓜 .mem) (𝓡 .run) (κs .0) (κs .1 .0) (κs .1 .1 .0) (qs .0) (qs .1 .0) (qs .1 .1 .0) (a .0) (a .1 .0) (a .1 .1 .0) (tablesOf 𝓤 H 𝓜 (tables 𝓤 H 𝓜 𝓡 planning.Code.env))
-    (cited 𝓤 H _ 𝓜 𝓡 planning.Code.env fn-number.Symbol.name fn-number.Symbol.routine planning.Code.calls-lent·call-refusal (fn-number.Met.met 𝓤 H 𝓜 𝓖 𝓡)) (cited 𝓤 H _ 𝓜 𝓡 planning.Code.env own′.Symbol.name own′.Symbol.routine planning.Code.calls-planner·wanted-refusal (own′.Met.met 𝓤 H 𝓜 𝓖 𝓡))
-    (cited 𝓤 H _ 𝓜 𝓡 planning.Code.env reaching.Symbol.name reaching.Symbol.routine planning.Code.calls-redraw·accesses (reaching.Met.met 𝓤 H 𝓜 𝓖 𝓡)) (cited 𝓤 H _ 𝓜 𝓡 planning.Code.env room′.Symbol.name room′.Symbol.routine planning.Code.calls-planner·list-refusal (room′.Met.met 𝓤 H 𝓜 𝓖 𝓡))
-    (cited 𝓤 H _ 𝓜 𝓡 planning.Code.env writing.Symbol.name writing.Symbol.routine planning.Code.calls-redraw·write-list (writing.Met.met 𝓤 H 𝓜 𝓖 𝓡)) (cited 𝓤 H _ 𝓜 𝓡 planning.Code.env last′.Symbol.name last′.Symbol.routine planning.Code.calls-planner·plan-answer (last′.Met.met 𝓤 H 𝓜 𝓖 𝓡)) (are .0 .0 .1) (are .1 .0 .0 .1) (are .1 .1 .0 .0 .1)))
+    (fn-number.Met.met 𝓤 H 𝓜 𝓖 𝓡) (own′.Met.met 𝓤 H 𝓜 𝓖 𝓡)
+    (reaching.Met.met 𝓤 H 𝓜 𝓖 𝓡) (room′.Met.met 𝓤 H 𝓜 𝓖 𝓡)
+    (writing.Met.met 𝓤 H 𝓜 𝓖 𝓡) (last′.Met.met 𝓤 H 𝓜 𝓖 𝓡) (are .0 .0 .1) (are .1 .0 .0 .1) (are .1 .1 .0 .0 .1)))

@@ -1,7 +1,7 @@
 -- `chain::max6954_plan_check` meets its contract: a walk of its MIR, by hand. The chain is passed to `call_refusal` and, with the lent bytes and words, to `accepted`.
 -- Assumes nothing.
 use Rattle.ground.proofs.Names.{_%_, Bool, _&&_, eqb, ltb, if}
-use Rattle.lent.proofs.Logic.{_≡_, refl, ℕ, List, [], _∷_, lit<, length, URA, named, SProp, emp, id⊢, via, fst∗, Lft, Share, ftrue, flft, Memory, Routine, Heap, Tables, Atoms, Fun, givenOf, tables, tablesOf, Given, ‵, raw, _⊛_, _$_, _∵_, !, qed, move, drop, use1, use2, split, join, fsplit, fjoin, suffices, frame, done, whole, sub, look-in, look, init, store, stop, fld, from, load, lit, of-opd, and-then, no-more, assigns, land, returns, enter, alloc1, alloc0, params1, pass1, pass0, free0, fmOf, RattleType, owns, Is, RefT, ShrSlice, Room, slice-vals, shr-slice-tells, plain, nothing, owned, onEntry, Bound, tripleOf, Triple, cited, says, Stays, ends-at, yes, shrSliceOf, shr-slice-copy, stay-dropped, goes-dropped}
+use Rattle.lent.proofs.Logic.{_≡_, refl, ℕ, List, [], _∷_, lit<, length, URA, named, SProp, emp, id⊢, via, fst∗, Lft, Share, ftrue, flft, Memory, Routine, Heap, Tables, Atoms, Fun, givenOf, tables, tablesOf, Given, ‵, raw, _⊛_, _$_, _∵_, !, qed, move, drop, use1, use2, split, join, fsplit, fjoin, suffices, frame, done, whole, sub, look-in, look, init, store, stop, fld, from, load, lit, of-opd, and-then, no-more, assigns, land, returns, enter, alloc1, alloc0, params1, pass1, pass0, free0, fmOf, RattleType, owns, Is, RefT, ShrSlice, Room, slice-vals, shr-slice-tells, plain, nothing, owned, onEntry, Bound, tripleOf, Triple, says, Stays, ends-at, yes, shrSliceOf, shr-slice-copy, stay-dropped, goes-dropped}
 use Rattle.refusals.specs.Refusals.{wantedRefusal, firstOf}
 use Rattle.device.specs.declared.Device.{Device}
 use Rattle.pass.specs.Found.{toPass}
@@ -82,5 +82,5 @@ max6954-plan-check-spec 𝓤 H 𝓜 𝓖 𝓡 =
     proves 𝓤 H 𝓜 𝓖 𝓡 plan-check.Code.env plan-check.ended stayed (plan-check.clauses 𝓤 H (𝓖 .A) (𝓜 .mem) (𝓡 .run)) (goes-dropped 𝓤 H (𝓖 .A) W 3 (shrSliceOf (0 ∷ []) tt (plain (λ _. R))) yes (λ κs x f. refl), (goes-dropped 𝓤 H (𝓖 .A) W 3 (shrSliceOf (1 ∷ []) tt (plain (λ _. byte .row))) yes (λ κs x f. refl), (goes-dropped 𝓤 H (𝓖 .A) W 3 (shrSliceOf (2 ∷ []) tt (plain (λ _. half .row))) yes (λ κs x f. refl), tt)))
     plan-check.Key.name plan-check.Code.function (plan-check.Code.unfolded 𝓤 H 𝓜 𝓡) (λ κs. (slice-vals, (slice-vals, (slice-vals, tt)))) (λ κs. (shr-slice-tells (named 0) (κs .0) R, (shr-slice-tells (named 1) (κs .1 .0) (byte .row), (shr-slice-tells (named 2) (κs .1 .1 .0) (half .row), tt))))
     (λ κs qs bounds a g are. via 𝓤 _ (fst∗ 𝓤 _ (emp 𝓤)) (walk 𝓤 H (𝓖 .A) W (𝓜 .mem) (𝓡 .run) (κs .0) (κs .1 .0) (κs .1 .1 .0) (qs .0) (qs .1 .0) (qs .1 .1 .0) (a .0) (a .1 .0) (a .1 .1 .0) (tablesOf 𝓤 H 𝓜 (tables 𝓤 H 𝓜 𝓡 plan-check.Code.env))
-    (cited 𝓤 H _ 𝓜 𝓡 plan-check.Code.env fn-number.Symbol.name fn-number.Symbol.routine plan-check.Code.calls-lent·call-refusal (fn-number.Met.met 𝓤 H 𝓜 𝓖 𝓡)) (cited 𝓤 H _ 𝓜 𝓡 plan-check.Code.env own′.Symbol.name own′.Symbol.routine plan-check.Code.calls-planner·wanted-refusal (own′.Met.met 𝓤 H 𝓜 𝓖 𝓡))
-    (cited 𝓤 H _ 𝓜 𝓡 plan-check.Code.env accepted.Symbol.name accepted.Symbol.routine plan-check.Code.calls-redraw·accepted (accepted.Met.met 𝓤 H 𝓜 𝓖 𝓡)) (cited 𝓤 H _ 𝓜 𝓡 plan-check.Code.env last′.Symbol.name last′.Symbol.routine plan-check.Code.calls-planner·check-answer (last′.Met.met 𝓤 H 𝓜 𝓖 𝓡)) (are .0 .0 .1) (are .1 .0 .0 .1) (are .1 .1 .0 .0 .1)))
+    (fn-number.Met.met 𝓤 H 𝓜 𝓖 𝓡) (own′.Met.met 𝓤 H 𝓜 𝓖 𝓡)
+    (accepted.Met.met 𝓤 H 𝓜 𝓖 𝓡) (last′.Met.met 𝓤 H 𝓜 𝓖 𝓡) (are .0 .0 .1) (are .1 .0 .0 .1) (are .1 .1 .0 .0 .1)))

@@ -1,7 +1,7 @@
 -- `chain::max6954_plane_shown` has the shape of `Asks.antt`.
 -- Assumes nothing.
 use Rattle.ground.proofs.Names.{_≡_, [], _∷_}
-use Rattle.lent.proofs.Logic.{w8, cited}
+use Rattle.lent.proofs.Logic.{w8}
 use Rattle.device.specs.Steps.{shownPlane}
 use Rattle.calls.specs.Calls.{planeShown}
 use Rattle.calls.specs.Served.{planeCode}
@@ -22,6 +22,4 @@ max6954-plane-shown-spec 𝓤 H 𝓜 𝓖 𝓡 =
     (λ r ds x. x ≡ record { number = r .number; records = ds; back = r .plane ∷ [] })
     (λ p r. r ≡ record { number = p .0; plane = 0 }) (λ n p r ds e. rw e)
     (λ p r. r ≡ record { number = 0; plane = planeCode (shownPlane (p .0)) }) (λ d p r ds z e. rw e)
-    𝓤 H 𝓜 𝓖 𝓡 this.Code.env this.Key.name (this.Code.unfolded 𝓤 H 𝓜 𝓡) (cited 𝓤 H _ 𝓜 𝓡 this.Code.env number.Symbol.name number.Symbol.routine this.Code.calls-lent·call-refusal (number.Met.met 𝓤 H 𝓜 𝓖 𝓡))
-    (cited 𝓤 H _ 𝓜 𝓡 this.Code.env own.Symbol.name own.Symbol.routine this.Code.calls-blink·plane-refusal (own.Met.met 𝓤 H 𝓜 𝓖 𝓡)) (cited 𝓤 H _ 𝓜 𝓡 this.Code.env refused.Symbol.name refused.Symbol.routine this.Code.calls-answers·plane-shown-refused (refused.Met.met 𝓤 H 𝓜 𝓖 𝓡))
-    (cited 𝓤 H _ 𝓜 𝓡 this.Code.env work.Symbol.name work.Symbol.routine this.Code.calls-answers·plane-shown (work.Met.met 𝓤 H 𝓜 𝓖 𝓡))
+    𝓤 H 𝓜 𝓖 𝓡 this.Code.env this.Key.name (this.Code.unfolded 𝓤 H 𝓜 𝓡) (number.Met.met 𝓤 H 𝓜 𝓖 𝓡) (own.Met.met 𝓤 H 𝓜 𝓖 𝓡) (refused.Met.met 𝓤 H 𝓜 𝓖 𝓡) (work.Met.met 𝓤 H 𝓜 𝓖 𝓡)

@@ -1,7 +1,6 @@
 -- `two_wire::max6955_read` has the shape of `Bytes.antt`.
 -- Assumes nothing.
 use Rattle.ground.proofs.Names.{[]}
-use Rattle.lent.proofs.Logic.{cited}
 use Rattle.bus.specs.States.{useAt}
 use Rattle.bus.specs.BusCalls.{get}
 use Rattle.bus.specs.BusServed.{asked}
@@ -21,6 +20,4 @@ max6955-read-spec 𝓤 H 𝓜 𝓖 𝓡 =
     bytes-spec free.Symbol.name work.Symbol.name answer.Symbol.name 0 [] (λ p. get)
     (λ early n β σ p. readFree early n β σ) (λ ds β σ p. read-free ds β σ)
     (λ d β p. asked (useAt (β .phase)) d) (λ d β p. readOpen d β) (λ ds β σ p. read-open ds β σ)
-    𝓤 H 𝓜 𝓖 𝓡 this.Code.env this.Key.name (this.Code.unfolded 𝓤 H 𝓜 𝓡) (cited 𝓤 H _ 𝓜 𝓡 this.Code.env number.Symbol.name number.Symbol.routine this.Code.calls-lent·call-refusal (number.Met.met 𝓤 H 𝓜 𝓖 𝓡))
-    (cited 𝓤 H _ 𝓜 𝓡 this.Code.env opened.Symbol.name opened.Symbol.routine this.Code.calls-transfers·part-open (opened.Met.met 𝓤 H 𝓜 𝓖 𝓡)) (cited 𝓤 H _ 𝓜 𝓡 this.Code.env free.Symbol.name free.Symbol.routine this.Code.calls-transfers·read-free (free.Met.met 𝓤 H 𝓜 𝓖 𝓡))
-    (cited 𝓤 H _ 𝓜 𝓡 this.Code.env work.Symbol.name work.Symbol.routine this.Code.calls-transfers·read (work.Met.met 𝓤 H 𝓜 𝓖 𝓡)) (cited 𝓤 H _ 𝓜 𝓡 this.Code.env answer.Symbol.name answer.Symbol.routine this.Code.calls-transfers·read-open (answer.Met.met 𝓤 H 𝓜 𝓖 𝓡))
+    𝓤 H 𝓜 𝓖 𝓡 this.Code.env this.Key.name (this.Code.unfolded 𝓤 H 𝓜 𝓡) (number.Met.met 𝓤 H 𝓜 𝓖 𝓡) (opened.Met.met 𝓤 H 𝓜 𝓖 𝓡) (free.Met.met 𝓤 H 𝓜 𝓖 𝓡) (work.Met.met 𝓤 H 𝓜 𝓖 𝓡) (answer.Met.met 𝓤 H 𝓜 𝓖 𝓡)

@@ -1,6 +1,5 @@
 -- `two_wire::max6955_stop` has the shape of `Moves.antt`.
 -- Assumes nothing.
-use Rattle.lent.proofs.Logic.{cited}
 use Rattle.bus.specs.States.{idle, busOf}
 use Rattle.bus.specs.BusCalls.{stop}
 use Rattle.transfers.proofs.BusLaws.{stops}
@@ -12,5 +11,4 @@ use Rattle.two_wire.proofs.max6955_stop as this
 pub max6955-stop-spec : {M : Type 1} → this.Statement.statement M
 unfolding this.Code.routine
 max6955-stop-spec 𝓤 H 𝓜 𝓖 𝓡 =
-    moves-spec answer.Symbol.name (busOf idle) stop stops 𝓤 H 𝓜 𝓖 𝓡 this.Code.env this.Key.name (this.Code.unfolded 𝓤 H 𝓜 𝓡)
-    (cited 𝓤 H _ 𝓜 𝓡 this.Code.env number.Symbol.name number.Symbol.routine this.Code.calls-lent·call-refusal (number.Met.met 𝓤 H 𝓜 𝓖 𝓡)) (cited 𝓤 H _ 𝓜 𝓡 this.Code.env answer.Symbol.name answer.Symbol.routine this.Code.calls-transfers·stop-answer (answer.Met.met 𝓤 H 𝓜 𝓖 𝓡))
+    moves-spec answer.Symbol.name (busOf idle) stop stops 𝓤 H 𝓜 𝓖 𝓡 this.Code.env this.Key.name (this.Code.unfolded 𝓤 H 𝓜 𝓡) (number.Met.met 𝓤 H 𝓜 𝓖 𝓡) (answer.Met.met 𝓤 H 𝓜 𝓖 𝓡)

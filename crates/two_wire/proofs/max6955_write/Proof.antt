@@ -1,7 +1,6 @@
 -- `two_wire::max6955_write` has the shape of `Bytes.antt`.
 -- Assumes nothing.
 use Rattle.ground.proofs.Names.{[], _∷_}
-use Rattle.lent.proofs.Logic.{cited}
 use Rattle.bus.specs.States.{useAt}
 use Rattle.bus.specs.BusCalls.{put}
 use Rattle.bus.specs.BusServed.{given}
@@ -23,6 +22,4 @@ max6955-write-spec 𝓤 H 𝓜 𝓖 𝓡 =
     bytes-spec free.Symbol.name work.Symbol.name answer.Symbol.name 0 (held byte ∷ []) (λ p. put (p .0))
     (λ early n β σ p. writeFree early n β σ (p .0)) (λ ds β σ p. write-free ds β σ (p .0))
     (λ d β p. given (useAt (β .phase)) (p .0) d) (λ d β p. putAnswer 0 (p .0) β) (λ ds β σ p. write-open ds β σ (p .0))
-    𝓤 H 𝓜 𝓖 𝓡 this.Code.env this.Key.name (this.Code.unfolded 𝓤 H 𝓜 𝓡) (cited 𝓤 H _ 𝓜 𝓡 this.Code.env number.Symbol.name number.Symbol.routine this.Code.calls-lent·call-refusal (number.Met.met 𝓤 H 𝓜 𝓖 𝓡))
-    (cited 𝓤 H _ 𝓜 𝓡 this.Code.env opened.Symbol.name opened.Symbol.routine this.Code.calls-transfers·part-open (opened.Met.met 𝓤 H 𝓜 𝓖 𝓡)) (cited 𝓤 H _ 𝓜 𝓡 this.Code.env free.Symbol.name free.Symbol.routine this.Code.calls-transfers·write-free (free.Met.met 𝓤 H 𝓜 𝓖 𝓡))
-    (cited 𝓤 H _ 𝓜 𝓡 this.Code.env work.Symbol.name work.Symbol.routine this.Code.calls-transfers·written (work.Met.met 𝓤 H 𝓜 𝓖 𝓡)) (cited 𝓤 H _ 𝓜 𝓡 this.Code.env answer.Symbol.name answer.Symbol.routine this.Code.calls-transfers·write-open (answer.Met.met 𝓤 H 𝓜 𝓖 𝓡))
+    𝓤 H 𝓜 𝓖 𝓡 this.Code.env this.Key.name (this.Code.unfolded 𝓤 H 𝓜 𝓡) (number.Met.met 𝓤 H 𝓜 𝓖 𝓡) (opened.Met.met 𝓤 H 𝓜 𝓖 𝓡) (free.Met.met 𝓤 H 𝓜 𝓖 𝓡) (work.Met.met 𝓤 H 𝓜 𝓖 𝓡) (answer.Met.met 𝓤 H 𝓜 𝓖 𝓡)

@@ -5,9 +5,9 @@
 --     bytes           its MIR.        ended, clauses      its contract.        walk     the MIR meets it
 --     bytes-spec      so a function whose MIR is that meets that contract
 -- Assumes nothing.
-use Rattle.ground.proofs.Names.{suc, _≤_, arith, _++_, eqb, eqb→eq, length-set}
+use Rattle.ground.proofs.Names.{none, suc, arith, _++_, eqb→eq, length-set}
 use prog.Routine as routine
-use Rattle.lent.proofs.Logic.{_≡_, refl, sym, ap, subst, ℕ, _-_, _<_, List, [], _∷_, URA, fullShare, named, lit<, w8, w64, tyBool, tyPtr, vptr, length, getD, set, SProp, emp, id⊢, via, fst∗, GName, fat, flft, Memory, Routine, Heap, Tables, Atoms, Fun, fact, givenOf, tables, tablesOf, Given, ‵, raw, _⊛_, _$_, _∵_, !, qed, move, keep, drop, use1, split, join, rewrite, fsplit, fjoin, suffices, frame, done, agg, whole, sub, look-in, look, look-raw, init, store, store-raw, forget, stop, hop, fld, from, load, lit, of-opd, bin, addr, and-then, no-more, assigns, land, returns, enter, alloc1, alloc0, params1, pass1, free0, fmOf, owns, Is, shows, pureI, sliceVal, at-slice, Room, slice-vals, mut-slice-tells, row, place-is, elem-out, elem-back, elem-put, opens-slice, closes-slice, plain, owned, Bound, tripleOf, Contract, Triple, says, Stays, stay-slice, goes-slice, ends-at, yes, scaled-fits, Name, Fn, Local, Ty, local, valueLocal, tyRef, imm, mut, erased, place, field, deref, seq, assign, cond, skip, return, copy, int, rvOpd, op2, minus, mul, eq, offset, unsigned, aggregate, addrOf, Model, Closed, Env, spotOf, Lfts, Shares, toks, Running, GhostRules, use0, put, Item, pointee, now, pureL, sliceTy, mutSliceOf, typesAt, Ended, Clauses, closing, all, call}
+use Rattle.lent.proofs.Logic.{_≡_, refl, sym, ap, subst, ℕ, _-_, List, [], _∷_, URA, fullShare, named, lit<, w8, w64, length, getD, set, SProp, emp, id⊢, via, fst∗, GName, fat, flft, Memory, Routine, Heap, Tables, Atoms, Fun, fact, givenOf, tables, tablesOf, Given, ‵, raw, _⊛_, _$_, _∵_, !, qed, move, drop, split, join, fsplit, fjoin, suffices, frame, done, agg, look, init, forget, lit, of-opd, bin, and-then, no-more, returns, enter, params1, pass1, fmOf, owns, Is, pureI, sliceVal, at-slice, Room, slice-vals, mut-slice-tells, row, opens-slice, closes-slice, plain, owned, Bound, tripleOf, Contract, Triple, says, Stays, stay-slice, goes-slice, ends-at, yes, Name, Fn, Local, place, field, deref, seq, assign, cond, skip, return, copy, int, rvOpd, op2, eq, aggregate, addrOf, Model, Closed, Env, spotOf, Lfts, Shares, toks, Running, GhostRules, use0, put, Item, now, pureL, mutSliceOf, typesAt, Ended, Clauses, closing, all, call}
 use Rattle.device.specs.PowerUp.{powerUp}
 use Rattle.device.specs.declared.Device.{Device}
 use Rattle.bus.specs.declared.Bus.{Bus}
@@ -19,20 +19,24 @@ use Rattle.transfers.specs.declared.ByteAnswer.{ByteAnswer}
 use Rattle.transfers.specs.declared.Straps.{Straps}
 use Rattle.transfers.proofs.BusLaws.{answeredTo, Reached, reached}
 use Rattle.transfers.proofs.part_open as open′
-use Rattle.lent.proofs.Records.{size, byte, device, recordBytes}
-use Rattle.lent.proofs.Walk.{Walk, lands-known, calls-value, leave, leave-room, forks, proves}
-use Rattle.lent.proofs.Params.{Kind, held, inners, outers, Seen, seens, values, Args, sents, spelled, told, machine, Good, stays, goes, ends, fits, Had, has, sends, doubled, locals-of, operands, after, env, spot-after, found, alloc-all, pass-all, leave-all, opds-all, FnOf, calls-kinds}
+use mathlib.Core.Option.{some}
+use Rattle.lent.proofs.Records.{size, byte, device, device-sized, recordBytes}
+use Rattle.lent.proofs.Locals.{span, values, envOf, starts, leaves, var, sets, lands-in, count, target}
+use Rattle.shapes.proofs.Handed.{starts-first, leaves-first, hands, hands-back, calls-on}
+use Rattle.shapes.proofs.Replaces.{more, store-locals, sliceOf, replacing, replaces}
+use Rattle.lent.proofs.Walk.{Walk, lands-known, calls-value, forks, proves}
+use Rattle.lent.proofs.Params.{Sent, Kind, held, outers, Seen, seens, Args, sents, spelled, told, machine, Good, stays, goes, ends, fits, Had, has, locals-of, operands, after, env, spot-after, alloc-all, pass-all, FnOf}
 use Rattle.lent.proofs.call_refusal.Symbol as number-def
 use Rattle.shapes.proofs.BusTypes.{busState, strapsGiven, byteAnswer}
-use Rattle.shapes.proofs.Asks.{not-zero}
-use Rattle.shapes.proofs.Steps.{ref, CallRefusal, numbers-mut}
+use Rattle.shapes.proofs.Steps.{not-zero, ref, CallRefusal, numbers-mut}
 
-abbrev pointed : Ty
-pointed = pointee (device .row .written)
-
--- the locals after the parameters: n, early, part, at, old; what is lent to `call_refusal`; and those of the test, the reads and the store
+-- the locals after the parameters: n, early and part, and those of `Replaces.antt`
 abbrev locals : List Local
-locals = local (size .ty) valueLocal ∷ local (byte .ty) valueLocal ∷ local (size .ty) valueLocal ∷ local (size .ty) valueLocal ∷ local (device .ty) valueLocal ∷ local (tyRef erased imm pointed) valueLocal ∷ local (sliceTy (tyRef erased imm pointed)) valueLocal ∷ local tyBool valueLocal ∷ local (size .ty) valueLocal ∷ local tyPtr valueLocal ∷ local (device .ty) valueLocal ∷ local tyPtr valueLocal ∷ []
+locals = values (size .ty ∷ byte .ty ∷ size .ty ∷ []) ++ store-locals device
+
+-- the result, the parts, the bus and the straps
+abbrev first : List Local
+first = values (byteAnswer .ty ∷ sliceOf device ∷ busState .ty ∷ strapsGiven .ty ∷ [])
 
 -- `freed`, `worked` and `answered` are what free, work and answer give
 module _ (free work answer : Name) (k : ℕ) (Ks : List (Kind k)) (q : Seen Ks → BusCall)
@@ -51,23 +55,15 @@ module _ (free work answer : Name) (k : ℕ) (Ks : List (Kind k)) (q : Seen Ks �
     lifetimes = suc k;
     outlives = [];
     params = after Ks 3;
-    locals = local (byteAnswer .ty) valueLocal ∷ local (sliceTy (tyRef (named 0) mut pointed)) valueLocal ∷ local (busState .ty) valueLocal ∷ local (strapsGiven .ty) valueLocal ∷ (locals-of Ks ++ locals);
+    locals = first ++ (locals-of Ks ++ locals);
     body = seq (assign (place (at 0) []) (rvOpd (copy (place 1 (field 1 ∷ [])))))
         (seq (assign (place (at 5) []) (addrOf (place 1 (field 0 ∷ deref (device .ty) ∷ [])))) (seq (assign (place (at 6) []) (aggregate (copy (place (at 5) []) ∷ copy (place 1 (field 1 ∷ [])) ∷ [])))
         (seq (call number-def.name (copy (place (at 6) []) ∷ int w64 1 ∷ int w8 0 ∷ []) (place (at 1) []))
         (seq (call open′.Symbol.name (copy (place (at 1) []) ∷ copy (place (at 0) []) ∷ copy (place 2 []) ∷ copy (place 3 []) ∷ []) (place (at 2) []))
         (seq (assign (place (at 7) []) (op2 eq (copy (place (at 2) [])) (int w64 0)))
         (seq (cond (copy (place (at 7) [])) (seq (call free (copy (place (at 1) []) ∷ copy (place (at 0) []) ∷ copy (place 2 []) ∷ copy (place 3 []) ∷ operands (λ j. suc (suc (suc (suc j)))) Ks) (place 0 [])) return) skip)
-        (seq (assign (place (at 3) []) (op2 (minus unsigned) (copy (place (at 2) [])) (int w64 1)))
-        (seq (assign (place (at 8) []) (op2 (mul unsigned) (copy (place (at 3) [])) (int w64 recordBytes)))
-        (seq (assign (place (at 9) []) (op2 offset (copy (place 1 (field 0 ∷ []))) (copy (place (at 8) []))))
-        (seq (assign (place (at 10) []) (rvOpd (copy (place (at 9) (deref (device .ty) ∷ [])))))
-        (seq (assign (place (at 4) []) (rvOpd (copy (place (at 10) []))))
-        (seq (call work (copy (place (at 4) []) ∷ copy (place 2 []) ∷ operands (λ j. suc (suc (suc (suc j)))) Ks) (place (at 10) []))
-        (seq (assign (place (at 8) []) (op2 (mul unsigned) (copy (place (at 3) [])) (int w64 recordBytes)))
-        (seq (assign (place (at 11) []) (op2 offset (copy (place 1 (field 0 ∷ []))) (copy (place (at 8) []))))
-        (seq (assign (place (at 11) (deref (device .ty) ∷ [])) (rvOpd (copy (place (at 10) []))))
-        (seq (call answer (copy (place (at 4) []) ∷ copy (place 2 []) ∷ operands (λ j. suc (suc (suc (suc j)))) Ks) (place 0 [])) return))))))))))))))));
+        (replacing device recordBytes (λ i. at (suc (suc (suc i)))) (copy (place (at 2) [])) work (copy (place 2 []) ∷ operands (λ j. suc (suc (suc (suc j)))) Ks) (seq (assign (place (at 11) (deref (device .ty) ∷ [])) (rvOpd (copy (place (at 10) []))))
+        (seq (call answer (copy (place (at 4) []) ∷ copy (place 2 []) ∷ operands (λ j. suc (suc (suc (suc j)))) Ks) (place 0 [])) return)))))))));
   }
 
   abbrev pub ended : Ended
@@ -109,8 +105,11 @@ module _ (free work answer : Name) (k : ℕ) (Ks : List (Kind k)) (q : Seen Ks �
     abbrev y : Bound 𝓤 H A (ended .signature)
     y = (κs, qs, tt, (ref γ b o ys, (β, (σ, xs))), (slice-vals (ref γ b o ys), machine κs others (β, (σ, xs))))
 
+    abbrev xs′ : Sent (κs .1) Ks
+    xs′ = sents κs Ks xs
+
     abbrev p : Seen Ks
-    p = seens (κs .1) Ks (sents κs Ks xs)
+    p = seens (κs .1) Ks xs′
 
     abbrev early : ℕ
     early = callRefusal ys 1 0
@@ -125,74 +124,40 @@ module _ (free work answer : Name) (k : ℕ) (Ks : List (Kind k)) (q : Seen Ks �
     walk : (𝓣 : Tables 𝓤 H) → Triple 𝓤 (𝓣 .C number-def.name) (CallRefusal 𝓤 H A mem run) → Triple 𝓤 (𝓣 .C open′.Symbol.name) (Open 𝓤 H A mem run) → Triple 𝓤 (𝓣 .C free) (Free 𝓤 H A) → Triple 𝓤 (𝓣 .C work) (Work 𝓤 H A) → Triple 𝓤 (𝓣 .C answer) (Answer 𝓤 H A) → Room (device .row) (length ys) → Good κs others (β, (σ, xs)) → Walk 𝓤 H A ended stayed (clauses 𝓤) 𝓣 bytes y tt
     walk 𝓣 known-number known-open known-free known-work known-answer room is =
         qed W ((‵ (flft (κs .0) (qs .0)) ⊛ raw (toks 𝓤 A k (κs .1) (qs .1))) ∷ ‵ (owns (typesAt (ended .signature .params) κs) (y .3) (y .4)) ∷ []) ∵ enter ! (𝓣 .C) (𝓣 .Λ) bytes _ _ $
-        alloc1 ! (λ l₀. alloc1 ! (λ l₁. alloc1 ! (λ l₂. alloc1 ! (λ l₃. alloc-all ! Ks (λ bs. alloc1 ! (λ m₀. alloc1 ! (λ m₁. alloc1 ! (λ m₂. alloc1 ! (λ m₃. alloc1 ! (λ m₄. alloc1 ! (λ m₅. alloc1 ! (λ m₆. alloc1 ! (λ m₇. alloc1 ! (λ m₈. alloc1 ! (λ m₉. alloc1 ! (λ p₀. alloc1 ! (λ p₁. alloc0 ! $ params1 ! $
-        let E : Env 𝓤 H = (size .ty, m₀) ∷ (byte .ty, m₁) ∷ (size .ty, m₂) ∷ (size .ty, m₃) ∷ (device .ty, m₄) ∷ (tyRef erased imm pointed, m₅) ∷ (sliceTy (tyRef erased imm pointed), m₆) ∷ (tyBool, m₇) ∷ (size .ty, m₈) ∷ (tyPtr, m₉) ∷ (device .ty, p₀) ∷ (tyPtr, p₁) ∷ [] in
+        starts-first W first ! (λ l D dies. alloc-all ! Ks (λ bs. starts W locals ! (λ m D′ dies′. params1 ! $
+        let E : Env 𝓤 H = envOf locals m in
         let spot : (i : ℕ) → spotOf 𝓤 H (env 𝓤 H Ks bs ++ E) (after Ks i) ≡ spotOf 𝓤 H E i = spot-after 𝓤 H Ks bs E in
-        pass1 ! (init ! 29 refl (tt, (tt, (record { fits = room .0 }, tt)))) $ pass1 ! (init ! 27 refl (busState .typed 𝓤 H A W β (is .0))) $ pass1 ! (init ! 25 refl (strapsGiven .typed 𝓤 H A W σ (is .1 .0))) $ move ! (24 ∷ []) $ pass-all ! κs Ks bs xs (is .1 .1) E $
-        move ! (34 ∷ []) $ fsplit ! $ move ! (1 ∷ []) $ fsplit ! $ drop ! $ fsplit ! $ drop ! $ move ! (35 ∷ []) $ split ! $ move ! (2 ∷ []) $
-        use1 W (‵ (owns (typesAt (inners Ks) (κs .1)) (sents κs Ks xs) (values (κs .1) Ks (sents κs Ks xs)))) (sends 𝓤 H A W κs Ks xs) $
-        -- [what the callees ask of the further parameters; the token; the other tokens; the slice; the further parameters; the twelve locals after them; …; _3; …; _2; …; _1; …; _0; …]
-        move ! (3 ∷ 1 ∷ 2 ∷ 4 ∷ 0 ∷ []) $
-        assigns ! (of-opd ! (load ! (from ! (fld ! refl (stop !))) (look-in ! 33 (sub ! 1 refl (whole !))))) (found ! (spot 0) (stop !)) (init ! 27 refl (tt, record { fits = room .0 })) $
-        assigns ! (addr ! (from ! (fld ! refl (hop ! (look-in ! 33 (sub ! 0 refl (whole !))) (stop !))))) (found ! (spot 5) (stop !)) (init ! 17 refl (tt, tt)) $
-        assigns ! (agg ! (and-then ! (load ! (found ! (spot 5) (stop !)) (look ! 17 refl)) (and-then ! (load ! (from ! (fld ! refl (stop !))) (look-in ! 33 (sub ! 1 refl (whole !)))) (no-more !)))) (found ! (spot 6) (stop !)) (init ! 15 refl (tt, (tt, (record { fits = room .0 }, tt)))) $
-        numbers-mut ! (fmOf 𝓤 H (W .laws) 𝓣) mem run known-number (κs .0) (qs .0) b o γ ys room 1 0 (refl, lit< tt) (refl, lit< tt)
-        (λ ν δ. and-then ! (load ! (found ! (spot 6) (stop !)) (look ! 15 refl)) (and-then ! (lit ! tt) (and-then ! (lit ! tt) (no-more !)))) (λ is-early wt-early. land ! (found ! (spot 1) (stop !)) (init ! 25 refl wt-early) $
-        -- [the slice; its token; the other tokens; the further parameters; what is asked of them; the twelve locals, from 5; …; _3 at 29; _2 at 31; _1 at 33; _0 at 35]
+        pass1 ! (init ! 15 refl (tt, (tt, (record { fits = room .0 }, tt)))) $ pass1 ! (init ! 16 refl (busState .typed 𝓤 H A W β (is .0))) $ pass1 ! (init ! 17 refl (strapsGiven .typed 𝓤 H A W σ (is .1 .0))) $ move ! (13 ∷ []) $ pass-all ! κs Ks bs xs (is .1 .1) E $
+        move ! (20 ∷ 19 ∷ []) $ fsplit ! $ move ! (1 ∷ []) $ fsplit ! $ drop ! $ fsplit ! $ drop ! $ move ! (2 ∷ []) $ split ! $ move ! (2 ∷ 1 ∷ 4 ∷ []) $ hands κs qs Ks bs ! xs $ move ! (2 ∷ 1 ∷ 0 ∷ 17 ∷ span 6 9) $
+        -- [the slice; its token; what is handed on; _1; the nine others, from 4; n, at 13; early; part; ..; _0 at 17; _2; _3; ..]
+        sets ! (of-opd ! (count ! 3 refl refl)) 13 (spot 0) refl (tt, record { fits = room .0 }) $ sets ! (target ! 3 refl refl) 6 (spot 5) refl (tt, tt) $ sets ! (agg ! (and-then ! (var ! 6 (spot 5) refl) (and-then ! (count ! 3 refl refl) (no-more !)))) 7 (spot 6) refl (tt, (tt, (record { fits = room .0 }, tt))) $
+        numbers-mut ! (fmOf 𝓤 H (W .laws) 𝓣) mem run known-number (κs .0) (qs .0) b o γ ys room 1 0 (refl, lit< tt) (refl, lit< tt) (λ i s r. and-then ! (var ! 8 (spot 6) refl) (and-then ! (lit ! tt) (and-then ! (lit ! tt) (no-more !)))) (λ is-early wt-early. lands-in ! 14 (spot 1) refl wt-early $
         calls-value ! (fmOf 𝓤 H (W .laws) 𝓣) (byte ∷ size ∷ busState ∷ strapsGiven ∷ []) size (λ _. emp 𝓤) (λ a. partOpen (a .0) (a .1 .0) (a .1 .1 .0) (a .1 .1 .1 .0 .addresses)) known-open (early, (length ys, (β, (σ, tt)))) (is-early, ((refl, room .0), (is .0, (is .1 .0, tt)))) (id⊢ 𝓤 _)
-        (and-then ! (load ! (found ! (spot 1) (stop !)) (look ! 26 refl)) (and-then ! (load ! (found ! (spot 0) (stop !)) (look ! 28 refl)) (and-then ! (load ! (from ! (stop !)) (look ! 32 refl)) (and-then ! (load ! (from ! (stop !)) (look ! 30 refl)) (no-more !))))) (λ is-part wt-part. land ! (found ! (spot 2) (stop !)) (init ! 23 refl wt-part) $
-        assigns ! (bin ! (load ! (found ! (spot 2) (stop !)) (look ! 23 refl)) (lit ! tt) tt) (found ! (spot 7) (stop !)) (init ! 13 refl (tt, tt)) $
-        fsplit ! $ pureL ! (at-slice (device .row) (ref γ b o ys) (slice-vals (ref γ b o ys))) (λ _. fsplit ! $ opens-slice ! tt (device .row) ys b o $
-        -- [the records; the open borrow; obs; auth; the other tokens; the further parameters; what is asked of them; the twelve locals, from 7; …; _3 at 31; _2 at 33; _1 at 35; _0 at 37]
-        forks ! (λ (a : Left) (l : List (Item 𝓤)). put 𝓤 H A 37 (‵ (fat fullShare (byteAnswer .ty) l₀ 0 (byteAnswer .val (a .0)))) (put 𝓤 H A 0 (‵ (row (device .row) fullShare (a .1 .0) b o)) l)) (load ! (found ! (spot 7) (stop !)) (look ! 15 refl)) (λ Q end none.
-        move ! (6 ∷ []) $ use1 W (‵ (owns (typesAt (inners Ks) (κs .1)) (sents κs Ks xs) (values (κs .1) Ks (sents κs Ks xs))) ⊛ ‵ (owns (typesAt (inners Ks) (κs .1)) (sents κs Ks xs) (values (κs .1) Ks (sents κs Ks xs)))) (doubled 𝓤 H A W κs Ks (sents κs Ks xs)) $ split ! $
-        owned ! (strapsGiven .row) (Is (strapsGiven .row)) (strapsGiven .makes 𝓤 H A W) σ (strapsGiven .val σ ∷ []) (is .1 .0) $ fjoin ! $ owned ! (busState .row) (Is (busState .row)) (busState .makes 𝓤 H A W) β (busState .val β ∷ []) (is .0) $ fjoin ! $ owned ! (size .row) (Is (size .row)) (size .makes 𝓤 H A W) (length ys) (size .val (length ys) ∷ []) (refl, room .0) $ fjoin ! $ owned ! (byte .row) (Is (byte .row)) (byte .makes 𝓤 H A W) early (byte .val early ∷ []) is-early $ fjoin ! $ move ! (0 ∷ 6 ∷ 7 ∷ []) $
-        -- [what free asks; the other tokens; the further parameters; what is asked of them; the records; the open borrow; obs; auth; the twelve locals, from 8; ..]
-        calls-kinds ! (fmOf 𝓤 H (W .laws) 𝓣) (held byte ∷ held size ∷ held busState ∷ held strapsGiven ∷ Ks) (held byteAnswer) ψ-free known-free (κs .1) (qs .1) (early, (length ys, (β, (σ, sents κs Ks xs))))
-        (and-then ! (load ! (found ! (spot 1) (stop !)) (look ! 27 refl)) (and-then ! (load ! (found ! (spot 0) (stop !)) (look ! 29 refl)) (and-then ! (load ! (from ! (stop !)) (look ! 33 refl)) (and-then ! (load ! (from ! (stop !)) (look ! 31 refl)) (opds-all (κs .1) ! Ks bs (sents κs Ks xs) (λ i. suc (suc (suc (suc i)))) E (λ i. refl)))))) (λ w r e.
-        lands-known ! byteAnswer (freed early (length ys) β (σ .addresses) p) w r e (λ is-r wt-r. land ! (from ! (stop !)) (init ! 37 refl wt-r) $ move ! (3 ∷ 4 ∷ 5 ∷ 6 ∷ 0 ∷ 1 ∷ 2 ∷ []) $
-        end (freed early (length ys) β (σ .addresses) p, (ys, (is-r, (frees ys β (σ .addresses) p (eqb→eq part 0 none), refl)))))))
-        (λ end some.
-        let reach = reached ys β (σ .addresses) (not-zero part some) in
+        (and-then ! (var ! 15 (spot 1) refl) (and-then ! (var ! 14 (spot 0) refl) (and-then ! (var ! 19 refl refl) (and-then ! (var ! 20 refl refl) (no-more !))))) (λ is-part wt-part. lands-in ! 15 (spot 2) refl wt-part $
+        sets ! (bin ! (var ! 15 (spot 2) refl) (lit ! tt) tt) 8 (spot 7) refl (tt, tt) $
+        fsplit ! $ pureL ! (at-slice (device .row) (ref γ b o ys) (slice-vals (ref γ b o ys))) (λ _. fsplit ! $ opens-slice ! tt (device .row) ys b o $ move ! (0 ∷ 4 ∷ 5 ∷ span 6 9) $
+        -- [the records; what is handed on; _1; the nine others, from 3; the open borrow; obs; auth; n, at 15; early; part; ..; _0 at 19; _2; _3; ..]
+        forks ! (λ (a : Left) (Γ : List (Item 𝓤)). put 𝓤 H A 19 (‵ (fat fullShare (byteAnswer .ty) (l 0) 0 (byteAnswer .val (a .0)))) (put 𝓤 H A 0 (‵ (row (device .row) fullShare (a .1 .0) b o)) Γ)) (var ! 7 (spot 7) refl) (λ Q end free′.
+        move ! (1 ∷ []) $ calls-on κs qs Ks bs ! xs′ (fmOf 𝓤 H (W .laws) 𝓣) (λ i. suc (suc (suc (suc i)))) E (λ i. refl) (byte ∷ size ∷ busState ∷ strapsGiven ∷ []) (held byteAnswer) ψ-free known-free (early, (length ys, (β, (σ, tt)))) (is-early, ((refl, room .0), (is .0, (is .1 .0, tt))))
+        (λ i j o os. and-then ! (var ! 18 (spot 1) refl) (and-then ! (var ! 17 (spot 0) refl) (and-then ! (var ! 22 refl refl) (and-then ! (var ! 23 refl refl) os)))) (λ w r e. lands-known ! byteAnswer (freed early (length ys) β (σ .addresses) p) w r e (λ is-r wt-r. lands-in ! 19 refl refl wt-r $ move ! (1 ∷ []) $
+        end (freed early (length ys) β (σ .addresses) p, (ys, (is-r, (frees ys β (σ .addresses) p (eqb→eq part 0 free′), refl)))))))
+        (λ end open″.
+        let reach = reached ys β (σ .addresses) (not-zero part open″) in
         let i : ℕ = part - 1 in
-        let there : 1 ≤ part = omega (arith, reach .named, reach .some) in
-        let l : i < length ys = omega (arith, reach .named, reach .some, reach .there) in
         let d : Device = getD ys i powerUp in
-        let e : Device = worked d β p in
-        let law : busOutcome (σ .addresses) (q p) β ys ≡ answeredTo (answered d β p) (set ys i e) = subst (λ (j : ℕ). busOutcome (σ .addresses) (q p) β ys ≡ answeredTo (answered (getD ys (j - 1) powerUp) β p) (set ys (j - 1) (worked (getD ys (j - 1) powerUp) β p))) (sym (reach .named)) (opens ys β (σ .addresses) p reach) in
-        assigns ! (bin ! (load ! (found ! (spot 2) (stop !)) (look ! 25 refl)) (lit ! tt) there) (found ! (spot 3) (stop !)) (init ! 23 refl (tt, record { fits = omega (arith, l, room .0) })) $
-        assigns ! (bin ! (load ! (found ! (spot 3) (stop !)) (look ! 23 refl)) (lit ! tt) (scaled-fits i (length ys) recordBytes l (room .1))) (found ! (spot 8) (stop !)) (init ! 13 refl (tt, scaled-fits i (length ys) recordBytes l (room .1))) $
-        assigns ! (bin ! (load ! (from ! (fld ! refl (stop !))) (look-in ! 35 (sub ! 0 refl (whole !)))) (load ! (found ! (spot 8) (stop !)) (look ! 13 refl)) tt) (found ! (spot 9) (stop !)) (init ! 11 refl (tt, tt)) $
-        rewrite ! 11 (λ (a : ℕ). ‵ (fat fullShare tyPtr m₉ 0 (vptr b a))) (sym (place-is recordBytes o i)) refl $
-        elem-out ! (device .row) (Is (device .row)) (shows 𝓤 H A (device .row)) (λ x. device .val x ∷ []) (device .tells) fullShare ys i powerUp b o l (λ is-d.
-        assigns ! (of-opd ! (load ! (found ! (spot 9) (hop ! (look ! 13 refl) (stop !))) (look-raw ! 0 refl))) (found ! (spot 10) (stop !)) (init ! 11 refl (device .typed 𝓤 H A W d is-d)) $
-        elem-back ! (device .row) fullShare ys i powerUp (device .val d ∷ []) b o l $
-        assigns ! (of-opd ! (load ! (found ! (spot 10) (stop !)) (look ! 9 refl))) (found ! (spot 4) (stop !)) (init ! 21 refl (device .typed 𝓤 H A W d is-d)) $
-        move ! (6 ∷ []) $ use1 W (‵ (owns (typesAt (inners Ks) (κs .1)) (sents κs Ks xs) (values (κs .1) Ks (sents κs Ks xs))) ⊛ ‵ (owns (typesAt (inners Ks) (κs .1)) (sents κs Ks xs) (values (κs .1) Ks (sents κs Ks xs)))) (doubled 𝓤 H A W κs Ks (sents κs Ks xs)) $ split ! $ owned ! (busState .row) (Is (busState .row)) (busState .makes 𝓤 H A W) β (busState .val β ∷ []) (is .0) $ fjoin ! $ owned ! (device .row) (Is (device .row)) (device .makes 𝓤 H A W) d (device .val d ∷ []) is-d $ fjoin ! $ move ! (0 ∷ 6 ∷ 7 ∷ []) $
-        calls-kinds ! (fmOf 𝓤 H (W .laws) 𝓣) (held device ∷ held busState ∷ Ks) (held device) ψ-work known-work (κs .1) (qs .1) (d, (β, sents κs Ks xs))
-        (and-then ! (load ! (found ! (spot 4) (stop !)) (look ! 21 refl)) (and-then ! (load ! (from ! (stop !)) (look ! 33 refl)) (opds-all (κs .1) ! Ks bs (sents κs Ks xs) (λ i. suc (suc (suc (suc i)))) E (λ i. refl)))) (λ w r e′.
-        lands-known ! device e w r e′ (λ is-e wt-e. land ! (found ! (spot 10) (stop !)) (store ! 9 refl wt-e) $ move ! (3 ∷ 4 ∷ 5 ∷ 6 ∷ 0 ∷ 1 ∷ 2 ∷ []) $
-        assigns ! (bin ! (load ! (found ! (spot 3) (stop !)) (look ! 23 refl)) (lit ! tt) (scaled-fits i (length ys) recordBytes l (room .1))) (found ! (spot 8) (stop !)) (store ! 13 refl (tt, scaled-fits i (length ys) recordBytes l (room .1))) $
-        assigns ! (bin ! (load ! (from ! (fld ! refl (stop !))) (look-in ! 35 (sub ! 0 refl (whole !)))) (load ! (found ! (spot 8) (stop !)) (look ! 13 refl)) tt) (found ! (spot 11) (stop !)) (init ! 7 refl (tt, tt)) $
-        rewrite ! 7 (λ (a : ℕ). ‵ (fat fullShare tyPtr p₁ 0 (vptr b a))) (sym (place-is recordBytes o i)) refl $
-        elem-out ! (device .row) (Is (device .row)) (shows 𝓤 H A (device .row)) (λ x. device .val x ∷ []) (device .tells) fullShare ys i powerUp b o l (λ _.
-        assigns ! (of-opd ! (load ! (found ! (spot 10) (stop !)) (look ! 11 refl))) (found ! (spot 11) (hop ! (look ! 9 refl) (stop !))) (store-raw ! 0 refl wt-e) $
-        move ! (1 ∷ []) $ drop ! $ owned ! (device .row) (Is (device .row)) (device .makes 𝓤 H A W) e (device .val e ∷ []) is-e $ move ! (1 ∷ 0 ∷ []) $ elem-put ! (device .row) fullShare ys i e (device .val e ∷ []) b o l $
-        move ! (6 ∷ []) $ use1 W (‵ (owns (typesAt (inners Ks) (κs .1)) (sents κs Ks xs) (values (κs .1) Ks (sents κs Ks xs))) ⊛ ‵ (owns (typesAt (inners Ks) (κs .1)) (sents κs Ks xs) (values (κs .1) Ks (sents κs Ks xs)))) (doubled 𝓤 H A W κs Ks (sents κs Ks xs)) $ split ! $ owned ! (busState .row) (Is (busState .row)) (busState .makes 𝓤 H A W) β (busState .val β ∷ []) (is .0) $ fjoin ! $ owned ! (device .row) (Is (device .row)) (device .makes 𝓤 H A W) d (device .val d ∷ []) is-d $ fjoin ! $ move ! (0 ∷ 6 ∷ 7 ∷ []) $
-        calls-kinds ! (fmOf 𝓤 H (W .laws) 𝓣) (held device ∷ held busState ∷ Ks) (held byteAnswer) ψ-answer known-answer (κs .1) (qs .1) (d, (β, sents κs Ks xs))
-        (and-then ! (load ! (found ! (spot 4) (stop !)) (look ! 21 refl)) (and-then ! (load ! (from ! (stop !)) (look ! 33 refl)) (opds-all (κs .1) ! Ks bs (sents κs Ks xs) (λ i. suc (suc (suc (suc i)))) E (λ i. refl)))) (λ w′ r′ e″.
-        lands-known ! byteAnswer (answered d β p) w′ r′ e″ (λ is-r wt-r. land ! (from ! (stop !)) (init ! 37 refl wt-r) $ move ! (3 ∷ 4 ∷ 5 ∷ 6 ∷ 0 ∷ 1 ∷ 2 ∷ []) $
-        forget ! 7 refl $ forget ! 9 refl $ forget ! 11 refl $ forget ! 13 refl $ forget ! 21 refl $ forget ! 23 refl $ end (answered d β p, (set ys i e, (is-r, (law, length-set ys i e)))))))))))
-        (λ a.
-        closes-slice ! tt (device .row) ys (a .1 .0) (a .1 .1 .1 .1) b o $
-        -- [obs; the borrow; the token; the other tokens; the further parameters; what is asked of them; the twelve locals, from 6; …; _3 at 30; _2 at 32; _1 at 34; _0 at 36]
-        returns ! (look ! 36 refl) $ leave ! 36 36 refl refl $ leave ! 34 34 refl refl $ leave ! 32 32 refl refl $ leave ! 30 30 refl refl $ move ! (4 ∷ []) $ leave-all (κs .1) ! Ks bs (sents κs Ks xs) $
-        leave ! 27 27 refl refl $ leave ! 25 25 refl refl $ leave ! 23 23 refl refl $ leave-room ! 21 21 refl refl $ leave-room ! 19 19 refl refl $ leave ! 17 17 refl refl $ leave ! 15 15 refl refl $ leave ! 13 13 refl refl $
-        leave-room ! 11 11 refl refl $ leave-room ! 9 9 refl refl $ leave-room ! 7 7 refl refl $ leave-room ! 5 5 refl refl $ free0 ! $
+        let law : busOutcome (σ .addresses) (q p) β ys ≡ answeredTo (answered d β p) (set ys i (worked d β p)) = subst (λ (j : ℕ). busOutcome (σ .addresses) (q p) β ys ≡ answeredTo (answered (getD ys (j - 1) powerUp) β p) (set ys (j - 1) (worked (getD ys (j - 1) powerUp) β p))) (sym (reach .named)) (opens ys β (σ .addresses) p reach) in
+        replaces κs qs Ks bs xs′ device recordBytes (λ i. m (suc (suc (suc i)))) (l 1) b o ! device-sized (fmOf 𝓤 H (W .laws) 𝓣) (λ i. at (suc (suc (suc i)))) refl (λ i. spot (suc (suc (suc i)))) (λ i. suc (suc (suc (suc i)))) E (λ i. refl) ys powerUp part (omega (arith, reach .named, reach .some)) (omega (arith, reach .named, reach .some, reach .there)) (room .0) (room .1) (var ! 17 (spot 2) refl)
+        (busState ∷ []) ψ-work known-work (β, tt) (is .0, tt) (worked d β p) (λ r e. e) (λ i i′ i″ os. and-then ! (var ! 22 refl refl) os) more (λ is-d.
+        move ! (1 ∷ []) $ calls-on κs qs Ks bs ! xs′ (fmOf 𝓤 H (W .laws) 𝓣) (λ i. suc (suc (suc (suc i)))) E (λ i. refl) (device ∷ busState ∷ []) (held byteAnswer) ψ-answer known-answer (d, (β, tt)) (is-d, (is .0, tt)) (λ i j o os. and-then ! (var ! 6 (spot 4) refl) (and-then ! (var ! 22 refl refl) os)) (λ w r e.
+        lands-known ! byteAnswer (answered d β p) w r e (λ is-r wt-r. lands-in {i = 0} ! 19 refl refl wt-r $ move ! (1 ∷ []) $ forget ! 4 refl $ end (answered d β p, (set ys i (worked d β p), (is-r, (law, length-set ys i (worked d β p)))))))))
+        (λ a. move ! (0 ∷ 12 ∷ 13 ∷ 14 ∷ []) $ closes-slice ! tt (device .row) ys (a .1 .0) (a .1 .1 .1 .1) b o $
+        -- [obs; the borrow; the token; what is handed on; _1; the nine others, from 5; n, at 14; early; part; that they die; _0 at 18; _2; _3; that they die]
+        returns ! (look ! 18 refl) $ move ! (18 ∷ 4 ∷ span 19 3) $ leaves-first W dies (some _ ∷ some _ ∷ some _ ∷ some _ ∷ []) ! $ move ! (3 ∷ []) $ hands-back κs qs Ks bs ! xs′ $
+        move ! (13 ∷ 14 ∷ 15 ∷ (span 4 9 ++ (16 ∷ []))) $ leaves W dies′ (some _ ∷ some _ ∷ some _ ∷ none ∷ none ∷ some _ ∷ some _ ∷ some _ ∷ []) ! $
         suffices ! _ (ends-at 𝓤 H A ended stayed (clauses 𝓤) W (y, tt) (byteAnswer .val (a .0)) (a .0) (a .1 .0, ends κs others (β, (σ, xs))) (a .1 .1 .1 .1, fits κs others (β, (σ, xs)))) $ says ! (a .1 .1 .1 .0) $
-        move ! (2 ∷ 3 ∷ []) $ join ! $ frame ! $ keep ! (0 ∷ 1 ∷ []) $ fjoin ! $ pureI ! (at-slice (device .row) (ref γ b o (a .1 .0)) (slice-vals (ref γ b o ys))) (tt, (tt, tt)) (ap (λ (n : ℕ). sliceVal (b, o) n ∷ []) (sym (a .1 .1 .1 .1)), subst (Room (device .row)) (sym (a .1 .1 .1 .1)) room) $ fjoin ! $
+        move ! (3 ∷ 0 ∷ []) $ join ! $ frame ! $ fjoin ! $ pureI ! (at-slice (device .row) (ref γ b o (a .1 .0)) (slice-vals (ref γ b o ys))) (tt, (tt, tt)) (ap (λ (n : ℕ). sliceVal (b, o) n ∷ []) (sym (a .1 .1 .1 .1)), subst (Room (device .row)) (sym (a .1 .1 .1 .1)) room) $ fjoin ! $
         use0 W (‵ (Had κs others (β, (σ, xs)))) (has 𝓤 H A W κs others (β, (σ, xs))) $ move ! (1 ∷ 0 ∷ []) $ fjoin ! $ frame ! $
-        owned ! (byteAnswer .row) (Is (byteAnswer .row)) (byteAnswer .makes 𝓤 H A W) (a .0) _ (a .1 .1 .0) $ done !)))))))))))))))))))))
+        owned ! (byteAnswer .row) (Is (byteAnswer .row)) (byteAnswer .makes 𝓤 H A W) (a .0) _ (a .1 .1 .0) $ done !)))))))
 
   pub bytes-spec : {M : Type 1} (𝓤 : URA M) (H : Heap 𝓤) (𝓜 : Model 𝓤 H) (𝓖 : GhostRules 𝓤 H) (𝓡 : Running 𝓤 H 𝓜) (γ : routine.Env) (name : Name) → Closed 𝓤 H (tables 𝓤 H 𝓜 𝓡 γ .C) (tables 𝓤 H 𝓜 𝓡 γ .Λ) name bytes
       → Triple 𝓤 (𝓡 .run (γ number-def.name)) (CallRefusal 𝓤 H (𝓖 .A) (𝓜 .mem) (𝓡 .run)) → Triple 𝓤 (𝓡 .run (γ open′.Symbol.name)) (Open 𝓤 H (𝓖 .A) (𝓜 .mem) (𝓡 .run))

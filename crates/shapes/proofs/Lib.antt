@@ -1,4 +1,6 @@
+pub mod Handed
 pub mod Steps
+pub mod Replaces
 pub mod Gives
 pub mod Asks
 pub mod BusTypes

@@ -4,8 +4,9 @@
 --     moves           its MIR.        ended, clauses      its contract.        walk     the MIR meets it
 --     moves-spec      so a function whose MIR is that meets that contract
 -- Assumes nothing.
+use mathlib.Core.Option.{some}
 use prog.Routine as routine
-use Rattle.lent.proofs.Logic.{_≡_, refl, ℕ, List, [], _∷_, lit<, length, URA, named, w8, w64, SProp, emp, id⊢, via, fst∗, Lft, Share, ftrue, flft, Memory, Routine, Heap, Tables, Atoms, Fun, fact, givenOf, tables, tablesOf, Given, ‵, _⊛_, _$_, _∵_, !, qed, move, drop, fsplit, fjoin, suffices, frame, done, whole, sub, look-in, look, init, stop, fld, from, load, lit, of-opd, and-then, no-more, assigns, land, returns, enter, alloc1, alloc0, params1, pass1, pass0, free0, fmOf, owns, Is, RefT, ShrSlice, slice-vals, shr-slice-tells, plain, nothing, owned, Bound, tripleOf, Contract, Triple, says, Stays, ends-at, yes, Name, Fn, local, valueLocal, tyRef, imm, place, field, seq, assign, return, copy, int, rvOpd, Model, Closed, Running, GhostRules, use0, pointee, now, sliceTy, shrSliceOf, typesAt, Ended, Clauses, closing, all, stay-dropped, goes-dropped, call}
+use Rattle.lent.proofs.Logic.{join, split, _≡_, refl, ℕ, List, [], _∷_, lit<, length, URA, named, w8, w64, SProp, emp, id⊢, via, fst∗, Lft, Share, ftrue, flft, Memory, Routine, Heap, Tables, Atoms, Fun, fact, givenOf, tables, tablesOf, Given, ‵, _⊛_, _$_, _∵_, !, qed, move, drop, fsplit, fjoin, suffices, frame, done, look, init, lit, of-opd, and-then, no-more, returns, enter, params1, pass1, pass0, fmOf, owns, Is, RefT, ShrSlice, slice-vals, shr-slice-tells, plain, nothing, owned, Bound, tripleOf, Contract, Triple, says, Stays, ends-at, yes, Name, Fn, Local, tyRef, imm, place, field, seq, assign, return, copy, int, rvOpd, Model, Closed, Running, GhostRules, use0, pointee, now, sliceTy, shrSliceOf, typesAt, Ended, Clauses, closing, all, stay-dropped, goes-dropped, call}
 use Rattle.device.specs.declared.Device.{Device}
 use Rattle.bus.specs.declared.Bus.{Bus}
 use Rattle.bus.specs.BusCalls.{BusCall}
@@ -16,7 +17,8 @@ use Rattle.transfers.specs.declared.BusAnswer.{BusAnswer}
 use Rattle.transfers.specs.declared.Straps.{Straps}
 use Rattle.transfers.proofs.BusLaws.{movedTo, foundFrom}
 use Rattle.lent.proofs.Records.{size, byte, device}
-use Rattle.lent.proofs.Walk.{Walk, calls-value, value-fn, value-says, leave, proves}
+use Rattle.lent.proofs.Walk.{Walk, calls-value, value-fn, value-says, proves}
+use Rattle.lent.proofs.Locals.{span, values, starts, leaves, var, sets, lands-in, count}
 use Rattle.lent.proofs.Params.{Kind, held, outers, spelled, told, machine, Good, stays, goes, ends, fits, Had, has}
 use Rattle.lent.proofs.call_refusal.Symbol as number-def
 use Rattle.shapes.proofs.BusTypes.{busState, strapsGiven, busAnswer}
@@ -26,13 +28,16 @@ use Rattle.shapes.proofs.Steps.{CallRefusal, numbers}
 abbrev others : List (Kind 0)
 others = held busState ∷ held strapsGiven ∷ []
 
+abbrev locals : List Local
+locals = values (busAnswer .ty ∷ sliceTy (tyRef (named 0) imm (pointee (device .row .written))) ∷ busState .ty ∷ strapsGiven .ty ∷ size .ty ∷ byte .ty ∷ [])
+
 module _ (answer : Name) (left : Bus) (q : BusCall) (law : (ds : List Device) (β : Bus) (σ : List ℕ) → busOutcome σ q β ds ≡ movedTo (moved (foundFrom ds β σ) β left) ds) where
   abbrev pub moves : Fn
   moves = record {
     lifetimes = 1;
     outlives = [];
     params = 3;
-    locals = local (busAnswer .ty) valueLocal ∷ local (sliceTy (tyRef (named 0) imm (pointee (device .row .written)))) valueLocal ∷ local (busState .ty) valueLocal ∷ local (strapsGiven .ty) valueLocal ∷ local (size .ty) valueLocal ∷ local (byte .ty) valueLocal ∷ [];
+    locals = locals;
     body = seq (assign (place 4 []) (rvOpd (copy (place 1 (field 1 ∷ [])))))
         (seq (call number-def.name (copy (place 1 []) ∷ int w64 1 ∷ int w8 0 ∷ []) (place 5 []))
         (seq (call answer (copy (place 5 []) ∷ copy (place 4 []) ∷ copy (place 2 []) ∷ copy (place 3 []) ∷ []) (place 0 [])) return));
@@ -70,18 +75,16 @@ module _ (answer : Name) (left : Bus) (q : BusCall) (law : (ds : List Device) (�
     walk : (𝓣 : Tables 𝓤 H) → Triple 𝓤 (𝓣 .C number-def.name) (CallRefusal 𝓤 H A mem run) → Triple 𝓤 (𝓣 .C answer) (Answer 𝓤 H A) → Is (ShrSlice (named 0) κ (device .row)) x (slice-vals x) → Good (κ, tt) others (β, (σ, tt)) → Walk 𝓤 H A ended stayed (clauses 𝓤) 𝓣 moves y tt
     walk 𝓣 known-number known-answer is-x good =
         qed W ((‵ (flft κ share) ⊛ ‵ ftrue) ∷ ‵ (owns (typesAt (ended .signature .params) (κ, tt)) (y .3) (y .4)) ∷ []) ∵ enter ! (𝓣 .C) (𝓣 .Λ) moves _ _ $
-        alloc1 ! (λ l₀. alloc1 ! (λ l₁. alloc1 ! (λ l₂. alloc1 ! (λ l₃. alloc1 ! (λ l₄. alloc1 ! (λ l₅. alloc0 ! $ params1 ! $
-        pass1 ! (init ! 8 refl (tt, (tt, (record { fits = is-x .0 .1 .0 }, tt)))) $ pass1 ! (init ! 6 refl (busState .typed 𝓤 H A W β (good .0))) $ pass1 ! (init ! 4 refl (strapsGiven .typed 𝓤 H A W σ (good .1 .0))) $ pass0 ! $
-        -- [_5; …; _4; …; and so on down to _0; …; the token; what the parameters own]
-        assigns ! (of-opd ! (load ! (from ! (fld ! refl (stop !))) (look-in ! 8 (sub ! 1 refl (whole !))))) (from ! (stop !)) (init ! 2 refl (tt, record { fits = is-x .0 .1 .0 })) $
-        move ! (13 ∷ 12 ∷ []) $ fsplit ! $ move ! (1 ∷ []) $ drop ! $ move ! (1 ∷ 0 ∷ []) $
-        numbers ! (fmOf 𝓤 H (W .laws) 𝓣) mem run known-number κ share x 1 0 (refl, lit< tt) (refl, lit< tt) (and-then ! (load ! (from ! (stop !)) (look ! 9 refl)) (and-then ! (lit ! tt) (and-then ! (lit ! tt) (no-more !)))) (λ is-early wt-early. land ! (from ! (stop !)) (init ! 1 refl wt-early) $
-        -- [the token; _5; …; _4; …; ..]
+        starts W locals ! (λ l D dies. params1 ! $ pass1 ! (init ! 1 refl (tt, (tt, (record { fits = is-x .0 .1 .0 }, tt)))) $ pass1 ! (init ! 2 refl (busState .typed 𝓤 H A W β (good .0))) $ pass1 ! (init ! 3 refl (strapsGiven .typed 𝓤 H A W σ (good .1 .0))) $ pass0 ! $
+        -- [_0; _1; ..; _5; that they die; the token; what the parameters own]
+        sets ! (of-opd ! (count ! 1 refl refl)) 4 refl refl (tt, record { fits = is-x .0 .1 .0 }) $ move ! (7 ∷ 8 ∷ []) $ split ! $ move ! (2 ∷ []) $ fsplit ! $ move ! (1 ∷ []) $ drop ! $
+        -- [the slice; its token; true; _0, from 3; ..]
+        numbers ! (fmOf 𝓤 H (W .laws) 𝓣) mem run known-number κ share x 1 0 (refl, lit< tt) (refl, lit< tt) (λ i s. and-then ! (var ! 4 refl refl) (and-then ! (lit ! tt) (and-then ! (lit ! tt) (no-more !)))) (λ is-early wt-early. lands-in ! 8 refl refl wt-early $
         calls-value ! (fmOf 𝓤 H (W .laws) 𝓣) (byte ∷ size ∷ busState ∷ strapsGiven ∷ []) busAnswer (λ _. emp 𝓤) (λ a. moved (refusalFrom (a .0) (a .1 .0) (a .1 .1 .0) (a .1 .1 .1 .0 .addresses)) (a .1 .1 .0) left) known-answer (early, (length ys, (β, (σ, tt)))) (is-early, ((refl, is-x .0 .1 .0), (good .0, (good .1 .0, tt)))) (id⊢ 𝓤 _)
-        (and-then ! (load ! (from ! (stop !)) (look ! 2 refl)) (and-then ! (load ! (from ! (stop !)) (look ! 4 refl)) (and-then ! (load ! (from ! (stop !)) (look ! 8 refl)) (and-then ! (load ! (from ! (stop !)) (look ! 6 refl)) (no-more !))))) (λ is-r wt-r. land ! (from ! (stop !)) (init ! 11 refl wt-r) $
-        returns ! (look ! 11 refl) $ leave ! 11 11 refl refl $ leave ! 9 9 refl refl $ leave ! 7 7 refl refl $ leave ! 5 5 refl refl $ leave ! 3 3 refl refl $ leave ! 1 1 refl refl $ free0 ! $
+        (and-then ! (var ! 9 refl refl) (and-then ! (var ! 8 refl refl) (and-then ! (var ! 6 refl refl) (and-then ! (var ! 7 refl refl) (no-more !))))) (λ is-r wt-r. lands-in ! 3 refl refl wt-r $
+        drop ! $ join ! $ returns ! (look ! 1 refl) $ move ! (span 1 7) $ leaves W dies (some _ ∷ some _ ∷ some _ ∷ some _ ∷ some _ ∷ some _ ∷ []) ! $
         suffices ! _ (ends-at 𝓤 H A ended stayed (clauses 𝓤) W (y, tt) (busAnswer .val r) r (tt, ends (κ, tt) others (β, (σ, tt))) (tt, fits (κ, tt) others (β, (σ, tt)))) $ says ! (law ys β (σ .addresses)) $
-        frame ! $ nothing ! $ use0 W (‵ (Had (κ, tt) others (β, (σ, tt)))) (has 𝓤 H A W (κ, tt) others (β, (σ, tt))) $ move ! (1 ∷ 0 ∷ []) $ fjoin ! $ frame ! $ owned ! (busAnswer .row) (Is (busAnswer .row)) (busAnswer .makes 𝓤 H A W) r _ is-r $ done !))))))))
+        frame ! $ nothing ! $ use0 W (‵ (Had (κ, tt) others (β, (σ, tt)))) (has 𝓤 H A W (κ, tt) others (β, (σ, tt))) $ move ! (1 ∷ 0 ∷ []) $ fjoin ! $ frame ! $ owned ! (busAnswer .row) (Is (busAnswer .row)) (busAnswer .makes 𝓤 H A W) r _ is-r $ done !)))
 
   pub moves-spec : {M : Type 1} (𝓤 : URA M) (H : Heap 𝓤) (𝓜 : Model 𝓤 H) (𝓖 : GhostRules 𝓤 H) (𝓡 : Running 𝓤 H 𝓜) (γ : routine.Env) (name : Name) → Closed 𝓤 H (tables 𝓤 H 𝓜 𝓡 γ .C) (tables 𝓤 H 𝓜 𝓡 γ .Λ) name moves
       → Triple 𝓤 (𝓡 .run (γ number-def.name)) (CallRefusal 𝓤 H (𝓖 .A) (𝓜 .mem) (𝓡 .run)) → Triple 𝓤 (𝓡 .run (γ answer)) (Answer 𝓤 H (𝓖 .A))

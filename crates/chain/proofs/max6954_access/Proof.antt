@@ -2,7 +2,7 @@
 -- Assumes nothing.
 use Rattle.ground.proofs.Names.{_++_, Holds, take, replicate}
 use mathlib.Core.Option.{some as holds}
-use Rattle.lent.proofs.Logic.{_≡_, refl, sym, ap, _∙_, subst, ℕ, List, [], _∷_, lit<, length, URA, fullShare, named, SProp, emp, id⊢, via, fst∗, Lft, GName, Share, ftrue, fat, flft, Memory, Routine, Heap, Tables, Atoms, Fun, givenOf, tables, tablesOf, Given, ‵, _⊛_, _$_, _∵_, !, qed, move, drop, split, join, rewrite, fsplit, fjoin, suffices, frame, done, look, init, forget, stop, from, lit, of-opd, bin, and-then, no-more, returns, enter, params1, pass1, pass0, fmOf, RattleType, owns, Is, shows, RefT, sliceVal, MutSlice, ShrSlice, Room, slice-vals, mut-slice-tells, shr-slice-tells, row, plain, nothing, owned, Bound, tripleOf, Triple, says, Stays, ends-at, yes, raw, use1, use2, feqL, agg, addr, finally, onEntry, gave-slice, goes-gave-slice, Local, local, memorySlot, w16, tyBool, tyUnit, tyRef, tyArray, erased, mut, imm, Place, Operand, Body, seq, Val, vunit, WT, hasTy, flent, Env, Calls, Loops, FmC, Item, put, some, later, Go, Sq, Post, runs, lands, await, pick, feqI, rep, Opds, arr-parts, lft-new, lft-end, lent-back, Array, array-repeat, array-lawful, Held, lends-shr-slice, shares, pointee, uint-copy, uint-lawful, shrSliceOf, sliceTy, peeks, only, stay-dropped, goes-dropped, call}
+use Rattle.lent.proofs.Logic.{_≡_, refl, sym, ap, _∙_, subst, ℕ, List, [], _∷_, lit<, length, URA, fullShare, named, SProp, emp, id⊢, via, fst∗, Lft, GName, Share, ftrue, fat, flft, Memory, Routine, Heap, Tables, Atoms, Fun, givenOf, tables, tablesOf, Given, ‵, _⊛_, _$_, _∵_, !, qed, move, drop, split, join, rewrite, fsplit, fjoin, suffices, frame, done, look, init, forget, stop, from, lit, of-opd, bin, and-then, no-more, returns, enter, params1, pass1, pass0, fmOf, RattleType, owns, Is, shows, RefT, sliceVal, MutSlice, ShrSlice, Room, slice-vals, mut-slice-tells, shr-slice-tells, row, plain, nothing, owned, Bound, tripleOf, Triple, says, Stays, ends-at, yes, raw, use1, use2, feqL, agg, addr, finally, onEntry, gave-slice, goes-gave-slice, Local, local, memorySlot, w16, tyBool, tyUnit, tyRef, tyArray, erased, mut, imm, Place, Operand, Body, seq, Val, vunit, WT, hasTy, flent, Env, Calls, Loops, FmC, Item, put, some, later, Go, Sq, Post, runs, lands, await, pick, feqI, rep, Opds, arr-parts, lft-new, lft-end, lent-back, Array, array-repeat, array-lawful, Held, lends-shr-slice, shares, pointee, uint-copy, uint-lawful, shrSliceOf, sliceTy, peeks, stay-dropped, goes-dropped, call}
 use Rattle.device.specs.declared.Device.{Device}
 use Rattle.calls.specs.Calls.{access as accessCall}
 use Rattle.calls.specs.CallRefusals.{allSound}
@@ -19,7 +19,7 @@ use Rattle.lent.proofs.Records.{size, byte, half, device}
 use Rattle.lent.proofs.Walk.{Walk, LentShared, lends-shared, shared-back, calls-value, calls-fn, lands-known, forks, proves}
 use Rattle.lent.proofs.Locals.{span, values, starts, leaves, var, sets, lands-in, lands-over, count, target}
 use Rattle.lent.proofs.Arrays.{S, array-opens, array-closes, row-lent, row-back, gives-up}
-use Rattle.shapes.proofs.Asks.{not-zero, is-zero}
+use Rattle.shapes.proofs.Steps.{not-zero, is-zero, unit-typed}
 use Rattle.lent.proofs.shift_words as looked
 use Rattle.lent.proofs.take_words as taking
 use Rattle.chain.proofs.max6954_access as access
@@ -101,10 +101,6 @@ module _ {M : Type 1} (𝓤 : URA M) (H : Heap 𝓤) (A : Atoms 𝓤) (W : Given
 
   abbrev at-taking : ℕ → ℕ → GName → Bound 𝓤 H A taking.signature
   at-taking l ν δ = ((κ, (ν ∷ [], tt)), (q, (fullShare, tt)), tt, (ref γ ys, (words l δ next, tt)), (slice-vals (ref γ ys), (slice-vals (words l δ next), tt)))
-
-  -- a unit result's machine value
-  unit-typed : (w : Val) → w ∷ [] ≡ vunit ∷ [] → Holds (hasTy tyUnit w) × WT w
-  unit-typed w e = subst (λ (v : Val). Holds (hasTy tyUnit v) × WT v) (sym (ap only e)) (tt, tt)
 
   -- the chain, the answer and what was sent; the array, where its words are ws
   abbrev Chain : Item 𝓤

@@ -8,7 +8,7 @@
 use Rattle.ground.proofs.Names.{suc, arith, _++_, none}
 use prog.Routine as routine
 use denote.Struct.Laws as LL
-use Rattle.lent.proofs.Logic.{_≡_, refl, sym, subst, ℕ, _-_, _<_, List, [], _∷_, URA, fullShare, named, w8, w64, tyBool, tyPtr, length, getD, SProp, emp, via, fst∗, fat, flft, Memory, Routine, Heap, Tables, Atoms, Fun, fact, givenOf, tables, tablesOf, Given, ‵, raw, _⊛_, _$_, _∵_, !, qed, move, drop, use1, split, join, fsplit, fjoin, suffices, frame, done, look, init, forget, stop, hop, lit, bin, and-then, no-more, returns, enter, params1, pass1, fmOf, owns, Is, shows, RefT, at-slice, ShrSlice, slice-vals, shr-slice-tells, row, looks-slice, shuts-slice, plain, nothing, peeks, Bound, tripleOf, Contract, Triple, says, Stays, ends-at, yes, Name, Fn, Local, tyRef, imm, place, field, deref, seq, assign, cond, skip, return, copy, int, rvOpd, op2, minus, mul, ne, offset, unsigned, Val, Model, Closed, Env, spotOf, Lfts, Shares, toks, Running, GhostRules, use0, put, Item, pointee, now, pureL, sliceTy, shrSliceOf, typeAt, typesAt, Ended, Clauses, closing, all, stay-dropped, goes-dropped, call}
+use Rattle.lent.proofs.Logic.{_≡_, refl, sym, subst, ℕ, _-_, _<_, List, [], _∷_, URA, fullShare, named, w8, w64, tyBool, tyPtr, length, getD, SProp, emp, fat, flft, Memory, Routine, Heap, Tables, Atoms, Fun, fact, givenOf, tables, tablesOf, Given, ‵, raw, _⊛_, _$_, _∵_, !, qed, move, drop, use1, split, join, fsplit, fjoin, suffices, frame, done, look, init, forget, stop, hop, lit, bin, and-then, no-more, returns, enter, params1, pass1, fmOf, owns, Is, shows, RefT, at-slice, ShrSlice, slice-vals, row, looks-slice, shuts-slice, nothing, peeks, Bound, tripleOf, Contract, Triple, says, ends-at, Name, Fn, Local, tyRef, imm, place, field, deref, seq, assign, cond, skip, return, copy, int, rvOpd, op2, minus, mul, ne, offset, unsigned, Val, Env, spotOf, Lfts, Shares, toks, use0, put, Item, pointee, now, pureL, sliceTy, typeAt, typesAt, Ended, Clauses, closing, call}
 use Rattle.device.specs.PowerUp.{powerUp}
 use Rattle.device.specs.declared.Device.{Device}
 use Rattle.device.proofs.Device as T
@@ -24,8 +24,9 @@ use Rattle.lent.proofs.Records.{size, byte, device, device-sized, recordBytes}
 use Rattle.lent.proofs.Locals.{span, values, envOf, starts, leaves, var, sets, lands-in, start, found}
 use Rattle.lent.proofs.Elements.{copies}
 use Rattle.shapes.proofs.Handed.{starts-first, leaves-first, hands, hands-back, calls-on}
-use Rattle.lent.proofs.Walk.{Walk, lands-known, forks, proves}
-use Rattle.lent.proofs.Params.{Kind, held, inner, outer, outers, type, Of, Seen, Sent, seen, seens, Args, sent, back, sent-back, sents, spelled, told, machine, Good, stays, goes, ends, fits, Had, has, typed-back, comes, locals-of, operands, after, env, spot-after, alloc-all, pass-all, FnOf}
+use Rattle.lent.proofs.Walk.{Walk, lands-known, forks}
+use Rattle.lent.proofs.Params.{Kind, held, inner, outer, type, Of, Seen, Sent, seen, seens, Args, sent, back, sent-back, sents, machine, Good, ends, fits, Had, has, typed-back, comes, locals-of, operands, after, env, spot-after, alloc-all, pass-all, FnOf}
+use Rattle.shapes.proofs.Rows.{Known, Closes, on-shared, stays-shared, proves-shared, refusal-known}
 use Rattle.shapes.proofs.Steps.{not-zero, is-zero, CallRefusal, numbers}
 use Rattle.lent.proofs.call_refusal.Symbol as number-def
 
@@ -63,7 +64,7 @@ module _ (own refused work : Name) (k : ℕ) (Ks : List (Kind k)) (R : Kind k) (
   }
 
   abbrev pub ended : Ended
-  ended = record { signature = record { lifetimes = suc k; outlives = []; params = shrSliceOf (0 ∷ []) tt (plain (λ _. device .row)) ∷ outers (held size ∷ Ks); result = outer R }; kept = (yes, all yes (outers (held size ∷ Ks))) }
+  ended = on-shared (held size ∷ Ks) (outer R)
 
   abbrev pub clauses : {M : Type 1} (𝓤 : URA M) → Clauses 𝓤 ended
   clauses 𝓤 κs a = record {
@@ -71,9 +72,6 @@ module _ (own refused work : Name) (k : ℕ) (Ks : List (Kind k)) (R : Kind k) (
     requires = λ _. emp 𝓤;
     ensures = λ _ r e. fact 𝓤 (is (seen (κs .1) R (sent κs R r)) (now (a .0)) (outcome (ask (a .1 .0) (question (seens (κs .1) Ks (sents κs Ks (a .1 .1))))) (now (a .0))));
   }
-
-  abbrev stayed : Stays (ended .signature .params) (ended .kept)
-  stayed = (stay-dropped (shrSliceOf (0 ∷ []) tt (plain (λ _. device .row))) yes, stays (held size ∷ Ks))
 
   abbrev ψ-own : Seen Ks → ℕ → Type 0
   ψ-own p r = r ≡ questionRefusal (question p)
@@ -117,7 +115,7 @@ module _ (own refused work : Name) (k : ℕ) (Ks : List (Kind k)) (R : Kind k) (
     meets : (r : typeAt (inner R) (κs .1) .Denot) (x : Outcome) → outcome (ask j q) ys ≡ x → is (seen (κs .1) R r) ys x → is (seen (κs .1) R r) ys (outcome (ask j q) ys)
     meets r x e i = subst (λ (x : Outcome). is (seen (κs .1) R r) ys x) (sym e) i
 
-    walk : (𝓣 : Tables 𝓤 H) → Triple 𝓤 (𝓣 .C number-def.name) (CallRefusal 𝓤 H A mem run) → Triple 𝓤 (𝓣 .C own) (Own 𝓤 H A) → Triple 𝓤 (𝓣 .C refused) (Refused 𝓤 H A) → Triple 𝓤 (𝓣 .C work) (Work 𝓤 H A) → Is (ShrSlice (named 0) (κs .0) (device .row)) x (slice-vals x) → Good κs (held size ∷ Ks) (j, xs) → Walk 𝓤 H A ended stayed (clauses 𝓤) 𝓣 asks y tt
+    walk : (𝓣 : Tables 𝓤 H) → Triple 𝓤 (𝓣 .C number-def.name) (CallRefusal 𝓤 H A mem run) → Triple 𝓤 (𝓣 .C own) (Own 𝓤 H A) → Triple 𝓤 (𝓣 .C refused) (Refused 𝓤 H A) → Triple 𝓤 (𝓣 .C work) (Work 𝓤 H A) → Is (ShrSlice (named 0) (κs .0) (device .row)) x (slice-vals x) → Good κs (held size ∷ Ks) (j, xs) → Walk 𝓤 H A ended (stays-shared (held size ∷ Ks) (outer R)) (clauses 𝓤) 𝓣 asks y tt
     walk 𝓣 known-number known-own known-refused known-work is-x good =
         qed W ((‵ (flft (κs .0) (qs .0)) ⊛ raw (toks 𝓤 A k (κs .1) (qs .1))) ∷ ‵ (owns (typesAt (ended .signature .params) κs) (y .3) (y .4)) ∷ []) ∵ enter ! (𝓣 .C) (𝓣 .Λ) asks _ _ $
         starts-first W first ! (λ l D dies. alloc-all ! Ks (λ bs. starts W locals ! (λ m D′ dies′. params1 ! $
@@ -152,16 +150,12 @@ module _ (own refused work : Name) (k : ℕ) (Ks : List (Kind k)) (R : Kind k) (
         (λ a.
         -- [the result; the token; what is handed on; the seven locals, from 3; that they die; _0 at 11; _1; _2; that they die]
         returns ! (look ! 11 refl) $ move ! (span 11 4) $ leaves-first W dies (some _ ∷ some _ ∷ some _ ∷ []) ! $ move ! (2 ∷ []) $ hands-back κs qs Ks bs ! xs′ $ move ! (span 3 8) $ leaves W dies′ (some _ ∷ some _ ∷ none ∷ some _ ∷ []) ! $
-        suffices ! _ (ends-at 𝓤 H A ended stayed (clauses 𝓤) W (y, tt) (a .0) (back κs R (a .1 .0)) (tt, ends κs (held size ∷ Ks) (j, xs)) (tt, fits κs (held size ∷ Ks) (j, xs))) $
+        suffices ! _ (ends-at 𝓤 H A ended (stays-shared (held size ∷ Ks) (outer R)) (clauses 𝓤) W (y, tt) (a .0) (back κs R (a .1 .0)) (tt, ends κs (held size ∷ Ks) (j, xs)) (tt, fits κs (held size ∷ Ks) (j, xs))) $
         says ! (subst (λ (z : typeAt (inner R) (κs .1) .Denot). is (seen (κs .1) R z) ys (outcome (ask j q) ys)) (sym (sent-back κs R (a .1 .0))) (a .1 .1)) $
         move ! (2 ∷ 0 ∷ []) $ join ! $ frame ! $ nothing ! $ use0 W (‵ (Had κs (held size ∷ Ks) (j, xs))) (has 𝓤 H A W κs (held size ∷ Ks) (j, xs)) $ move ! (1 ∷ 0 ∷ []) $ fjoin ! $ frame ! $
         use1 W (‵ (typeAt (outer R) κs .own (back κs R (a .1 .0)) (a .0 ∷ []))) (comes 𝓤 H A W κs R (a .1 .0) (a .0)) $ done !)))))))
 
-  pub asks-spec : {M : Type 1} (𝓤 : URA M) (H : Heap 𝓤) (𝓜 : Model 𝓤 H) (𝓖 : GhostRules 𝓤 H) (𝓡 : Running 𝓤 H 𝓜) (γ : routine.Env) (name : Name) → Closed 𝓤 H (tables 𝓤 H 𝓜 𝓡 γ .C) (tables 𝓤 H 𝓜 𝓡 γ .Λ) name asks
-      → Triple 𝓤 (𝓡 .run (γ number-def.name)) (CallRefusal 𝓤 H (𝓖 .A) (𝓜 .mem) (𝓡 .run)) → Triple 𝓤 (𝓡 .run (γ own)) (Own 𝓤 H (𝓖 .A)) → Triple 𝓤 (𝓡 .run (γ refused)) (Refused 𝓤 H (𝓖 .A)) → Triple 𝓤 (𝓡 .run (γ work)) (Work 𝓤 H (𝓖 .A))
-      → Triple 𝓤 (𝓡 .run (γ name)) (tripleOf 𝓤 H (𝓖 .A) (ended .signature) (closing 𝓤 H (𝓖 .A) ended (clauses 𝓤)))
+  pub asks-spec : {M : Type 1} (γ : routine.Env) (name : Name) → Closes M γ name asks → γ number-def.name ≡ number-def.routine → Known M (γ own) Own → Known M (γ refused) Refused → Known M (γ work) Work → Known M (γ name) (λ 𝓤 H A. tripleOf 𝓤 H A (ended .signature) (closing 𝓤 H A ended (clauses 𝓤)))
   unfolding tablesOf
-  asks-spec 𝓤 H 𝓜 𝓖 𝓡 γ name closed known-number known-own known-refused known-work =
-      proves 𝓤 H 𝓜 𝓖 𝓡 γ ended stayed (clauses 𝓤) (goes-dropped 𝓤 H (𝓖 .A) (givenOf 𝓤 H 𝓜 𝓖) (suc k) (shrSliceOf (0 ∷ []) tt (plain (λ _. device .row))) yes (λ κs x f. refl), goes 𝓤 H (𝓖 .A) (givenOf 𝓤 H 𝓜 𝓖) (held size ∷ Ks))
-      name asks closed (λ κs. (slice-vals, spelled κs (held size ∷ Ks))) (λ κs. (shr-slice-tells (named 0) (κs .0) (device .row), told κs (held size ∷ Ks)))
-      (λ κs qs bounds a g are. via 𝓤 _ (fst∗ 𝓤 _ (emp 𝓤)) (walk 𝓤 H (𝓖 .A) (givenOf 𝓤 H 𝓜 𝓖) (𝓜 .mem) (𝓡 .run) κs qs (a .0) (a .1 .0) (a .1 .1) (tablesOf 𝓤 H 𝓜 (tables 𝓤 H 𝓜 𝓡 γ)) known-number known-own known-refused known-work (are .0) (are .1)))
+  asks-spec γ name closed number known-own known-refused known-work 𝓤 H 𝓜 𝓖 𝓡 =
+      proves-shared (held size ∷ Ks) (outer R) 𝓤 H 𝓜 𝓖 𝓡 γ name asks (closed 𝓤 H 𝓜 𝓡) (clauses 𝓤) (λ κs qs x a g. walk 𝓤 H (𝓖 .A) (givenOf 𝓤 H 𝓜 𝓖) (𝓜 .mem) (𝓡 .run) κs qs x (a .0) (a .1) (tablesOf 𝓤 H 𝓜 (tables 𝓤 H 𝓜 𝓡 γ)) (refusal-known 𝓤 H 𝓜 𝓖 𝓡 γ number) (known-own 𝓤 H 𝓜 𝓖 𝓡) (known-refused 𝓤 H 𝓜 𝓖 𝓡) (known-work 𝓤 H 𝓜 𝓖 𝓡))

@@ -7,7 +7,7 @@
 -- Assumes nothing.
 use Rattle.ground.proofs.Names.{none, suc, arith, _++_, eqb→eq, length-set}
 use prog.Routine as routine
-use Rattle.lent.proofs.Logic.{_≡_, refl, sym, ap, subst, ℕ, _-_, List, [], _∷_, URA, fullShare, named, lit<, w8, w64, length, getD, set, SProp, emp, id⊢, via, fst∗, GName, fat, flft, Memory, Routine, Heap, Tables, Atoms, Fun, fact, givenOf, tables, tablesOf, Given, ‵, raw, _⊛_, _$_, _∵_, !, qed, move, drop, split, join, fsplit, fjoin, suffices, frame, done, agg, look, init, forget, lit, of-opd, bin, and-then, no-more, returns, enter, params1, pass1, fmOf, owns, Is, pureI, sliceVal, at-slice, Room, slice-vals, mut-slice-tells, row, opens-slice, closes-slice, plain, owned, Bound, tripleOf, Contract, Triple, says, Stays, stay-slice, goes-slice, ends-at, yes, Name, Fn, Local, place, field, deref, seq, assign, cond, skip, return, copy, int, rvOpd, op2, eq, aggregate, addrOf, Model, Closed, Env, spotOf, Lfts, Shares, toks, Running, GhostRules, use0, put, Item, now, pureL, mutSliceOf, typesAt, Ended, Clauses, closing, all, call}
+use Rattle.lent.proofs.Logic.{cited, _≡_, refl, sym, ap, subst, ℕ, _-_, List, [], _∷_, URA, fullShare, named, lit<, w8, w64, length, getD, set, SProp, emp, id⊢, GName, fat, flft, Memory, Routine, Heap, Tables, Atoms, Fun, fact, givenOf, tables, tablesOf, Given, ‵, raw, _⊛_, _$_, _∵_, !, qed, move, drop, split, join, fsplit, fjoin, suffices, frame, done, agg, look, init, forget, lit, of-opd, bin, and-then, no-more, returns, enter, params1, pass1, fmOf, owns, Is, pureI, sliceVal, at-slice, Room, slice-vals, row, opens-slice, closes-slice, plain, owned, Bound, tripleOf, Contract, Triple, says, ends-at, Name, Fn, Local, place, field, deref, seq, assign, cond, skip, return, copy, int, rvOpd, op2, eq, aggregate, addrOf, Env, spotOf, Lfts, Shares, toks, use0, put, Item, now, pureL, typesAt, Ended, Clauses, closing, call}
 use Rattle.device.specs.PowerUp.{powerUp}
 use Rattle.device.specs.declared.Device.{Device}
 use Rattle.bus.specs.declared.Bus.{Bus}
@@ -24,10 +24,11 @@ use Rattle.lent.proofs.Records.{size, byte, device, device-sized, recordBytes}
 use Rattle.lent.proofs.Locals.{span, values, envOf, starts, leaves, var, sets, lands-in, count, target}
 use Rattle.shapes.proofs.Handed.{starts-first, leaves-first, hands, hands-back, calls-on}
 use Rattle.shapes.proofs.Replaces.{more, store-locals, sliceOf, replacing, replaces}
-use Rattle.lent.proofs.Walk.{Walk, lands-known, calls-value, forks, proves}
-use Rattle.lent.proofs.Params.{Sent, Kind, held, outers, Seen, seens, Args, sents, spelled, told, machine, Good, stays, goes, ends, fits, Had, has, locals-of, operands, after, env, spot-after, alloc-all, pass-all, FnOf}
+use Rattle.lent.proofs.Walk.{Walk, lands-known, calls-value, forks}
+use Rattle.lent.proofs.Params.{Sent, Kind, held, Seen, seens, Args, sents, machine, Good, ends, fits, Had, has, locals-of, operands, after, env, spot-after, alloc-all, pass-all, FnOf}
 use Rattle.lent.proofs.call_refusal.Symbol as number-def
 use Rattle.shapes.proofs.BusTypes.{busState, strapsGiven, byteAnswer}
+use Rattle.shapes.proofs.Rows.{Known, Closes, on-mut, stays-mut, proves-mut, refusal-known}
 use Rattle.shapes.proofs.Steps.{not-zero, ref, CallRefusal, numbers-mut}
 
 -- the locals after the parameters: n, early and part, and those of `Replaces.antt`
@@ -67,7 +68,7 @@ module _ (free work answer : Name) (k : ℕ) (Ks : List (Kind k)) (q : Seen Ks �
   }
 
   abbrev pub ended : Ended
-  ended = record { signature = record { lifetimes = suc k; outlives = []; params = mutSliceOf (0 ∷ []) tt (plain (λ _. device .row)) ∷ outers others; result = plain (λ _. byteAnswer .row) }; kept = (yes, all yes (outers others)) }
+  ended = on-mut others (plain (λ _. byteAnswer .row))
 
   abbrev pub clauses : {M : Type 1} (𝓤 : URA M) → Clauses 𝓤 ended
   clauses 𝓤 κs a = record {
@@ -75,9 +76,6 @@ module _ (free work answer : Name) (k : ℕ) (Ks : List (Kind k)) (q : Seen Ks �
     requires = λ _. emp 𝓤;
     ensures = λ _ r e. fact 𝓤 (busOutcome (a .1 .1 .0 .addresses) (q (seens (κs .1) Ks (sents κs Ks (a .1 .1 .1)))) (a .1 .0) (now (a .0)) ≡ record { number = r .number; bus = r .bus; records = now (e .0); back = r .acknowledged ∷ r .«data» ∷ [] });
   }
-
-  abbrev stayed : Stays (ended .signature .params) (ended .kept)
-  stayed = (stay-slice (0 ∷ []) tt (plain (λ _. device .row)), stays others)
 
   abbrev ψ-free : Seen (held byte ∷ held size ∷ held busState ∷ held strapsGiven ∷ Ks) → ByteAnswer → Type 0
   ψ-free p r = r ≡ freed (p .0) (p .1 .0) (p .1 .1 .0) (p .1 .1 .1 .0 .addresses) (p .1 .1 .1 .1)
@@ -121,7 +119,7 @@ module _ (free work answer : Name) (k : ℕ) (Ks : List (Kind k)) (q : Seen Ks �
     abbrev Left : Type 0
     Left = (r : ByteAnswer) × ((zs : List Device) × (Is (byteAnswer .row) r (byteAnswer .val r ∷ []) × ((busOutcome (σ .addresses) (q p) β ys ≡ answeredTo r zs) × (length zs ≡ length ys))))
 
-    walk : (𝓣 : Tables 𝓤 H) → Triple 𝓤 (𝓣 .C number-def.name) (CallRefusal 𝓤 H A mem run) → Triple 𝓤 (𝓣 .C open′.Symbol.name) (Open 𝓤 H A mem run) → Triple 𝓤 (𝓣 .C free) (Free 𝓤 H A) → Triple 𝓤 (𝓣 .C work) (Work 𝓤 H A) → Triple 𝓤 (𝓣 .C answer) (Answer 𝓤 H A) → Room (device .row) (length ys) → Good κs others (β, (σ, xs)) → Walk 𝓤 H A ended stayed (clauses 𝓤) 𝓣 bytes y tt
+    walk : (𝓣 : Tables 𝓤 H) → Triple 𝓤 (𝓣 .C number-def.name) (CallRefusal 𝓤 H A mem run) → Triple 𝓤 (𝓣 .C open′.Symbol.name) (Open 𝓤 H A mem run) → Triple 𝓤 (𝓣 .C free) (Free 𝓤 H A) → Triple 𝓤 (𝓣 .C work) (Work 𝓤 H A) → Triple 𝓤 (𝓣 .C answer) (Answer 𝓤 H A) → Room (device .row) (length ys) → Good κs others (β, (σ, xs)) → Walk 𝓤 H A ended (stays-mut others (plain (λ _. byteAnswer .row))) (clauses 𝓤) 𝓣 bytes y tt
     walk 𝓣 known-number known-open known-free known-work known-answer room is =
         qed W ((‵ (flft (κs .0) (qs .0)) ⊛ raw (toks 𝓤 A k (κs .1) (qs .1))) ∷ ‵ (owns (typesAt (ended .signature .params) κs) (y .3) (y .4)) ∷ []) ∵ enter ! (𝓣 .C) (𝓣 .Λ) bytes _ _ $
         starts-first W first ! (λ l D dies. alloc-all ! Ks (λ bs. starts W locals ! (λ m D′ dies′. params1 ! $
@@ -154,17 +152,12 @@ module _ (free work answer : Name) (k : ℕ) (Ks : List (Kind k)) (q : Seen Ks �
         -- [obs; the borrow; the token; what is handed on; _1; the nine others, from 5; n, at 14; early; part; that they die; _0 at 18; _2; _3; that they die]
         returns ! (look ! 18 refl) $ move ! (18 ∷ 4 ∷ span 19 3) $ leaves-first W dies (some _ ∷ some _ ∷ some _ ∷ some _ ∷ []) ! $ move ! (3 ∷ []) $ hands-back κs qs Ks bs ! xs′ $
         move ! (13 ∷ 14 ∷ 15 ∷ (span 4 9 ++ (16 ∷ []))) $ leaves W dies′ (some _ ∷ some _ ∷ some _ ∷ none ∷ none ∷ some _ ∷ some _ ∷ some _ ∷ []) ! $
-        suffices ! _ (ends-at 𝓤 H A ended stayed (clauses 𝓤) W (y, tt) (byteAnswer .val (a .0)) (a .0) (a .1 .0, ends κs others (β, (σ, xs))) (a .1 .1 .1 .1, fits κs others (β, (σ, xs)))) $ says ! (a .1 .1 .1 .0) $
+        suffices ! _ (ends-at 𝓤 H A ended (stays-mut others (plain (λ _. byteAnswer .row))) (clauses 𝓤) W (y, tt) (byteAnswer .val (a .0)) (a .0) (a .1 .0, ends κs others (β, (σ, xs))) (a .1 .1 .1 .1, fits κs others (β, (σ, xs)))) $ says ! (a .1 .1 .1 .0) $
         move ! (3 ∷ 0 ∷ []) $ join ! $ frame ! $ fjoin ! $ pureI ! (at-slice (device .row) (ref γ b o (a .1 .0)) (slice-vals (ref γ b o ys))) (tt, (tt, tt)) (ap (λ (n : ℕ). sliceVal (b, o) n ∷ []) (sym (a .1 .1 .1 .1)), subst (Room (device .row)) (sym (a .1 .1 .1 .1)) room) $ fjoin ! $
         use0 W (‵ (Had κs others (β, (σ, xs)))) (has 𝓤 H A W κs others (β, (σ, xs))) $ move ! (1 ∷ 0 ∷ []) $ fjoin ! $ frame ! $
         owned ! (byteAnswer .row) (Is (byteAnswer .row)) (byteAnswer .makes 𝓤 H A W) (a .0) _ (a .1 .1 .0) $ done !)))))))
 
-  pub bytes-spec : {M : Type 1} (𝓤 : URA M) (H : Heap 𝓤) (𝓜 : Model 𝓤 H) (𝓖 : GhostRules 𝓤 H) (𝓡 : Running 𝓤 H 𝓜) (γ : routine.Env) (name : Name) → Closed 𝓤 H (tables 𝓤 H 𝓜 𝓡 γ .C) (tables 𝓤 H 𝓜 𝓡 γ .Λ) name bytes
-      → Triple 𝓤 (𝓡 .run (γ number-def.name)) (CallRefusal 𝓤 H (𝓖 .A) (𝓜 .mem) (𝓡 .run)) → Triple 𝓤 (𝓡 .run (γ open′.Symbol.name)) (Open 𝓤 H (𝓖 .A) (𝓜 .mem) (𝓡 .run))
-      → Triple 𝓤 (𝓡 .run (γ free)) (Free 𝓤 H (𝓖 .A)) → Triple 𝓤 (𝓡 .run (γ work)) (Work 𝓤 H (𝓖 .A)) → Triple 𝓤 (𝓡 .run (γ answer)) (Answer 𝓤 H (𝓖 .A))
-      → Triple 𝓤 (𝓡 .run (γ name)) (tripleOf 𝓤 H (𝓖 .A) (ended .signature) (closing 𝓤 H (𝓖 .A) ended (clauses 𝓤)))
+  pub bytes-spec : {M : Type 1} (γ : routine.Env) (name : Name) → Closes M γ name bytes → γ number-def.name ≡ number-def.routine → γ open′.Symbol.name ≡ open′.Symbol.routine → Known M (γ free) Free → Known M (γ work) Work → Known M (γ answer) Answer → Known M (γ name) (λ 𝓤 H A. tripleOf 𝓤 H A (ended .signature) (closing 𝓤 H A ended (clauses 𝓤)))
   unfolding tablesOf
-  bytes-spec 𝓤 H 𝓜 𝓖 𝓡 γ name closed known-number known-open known-free known-work known-answer =
-      proves 𝓤 H 𝓜 𝓖 𝓡 γ ended stayed (clauses 𝓤) (goes-slice 𝓤 H (𝓖 .A) (givenOf 𝓤 H 𝓜 𝓖) (suc k) 0 tt (plain (λ _. device .row)), goes 𝓤 H (𝓖 .A) (givenOf 𝓤 H 𝓜 𝓖) others)
-      name bytes closed (λ κs. (slice-vals, spelled κs others)) (λ κs. (mut-slice-tells (named 0) (κs .0) (device .row), told κs others))
-      (λ κs qs bounds a g are. via 𝓤 _ (fst∗ 𝓤 _ (emp 𝓤)) (walk 𝓤 H (𝓖 .A) (givenOf 𝓤 H 𝓜 𝓖) (𝓜 .mem) (𝓡 .run) κs qs (a .0 .ptr .0) (a .0 .ptr .1) (a .0 .name) (a .0 .now) (a .1 .0) (a .1 .1 .0) (a .1 .1 .1) (tablesOf 𝓤 H 𝓜 (tables 𝓤 H 𝓜 𝓡 γ)) known-number known-open known-free known-work known-answer (are .0 .0 .1) (are .1)))
+  bytes-spec γ name closed number opened known-free known-work known-answer 𝓤 H 𝓜 𝓖 𝓡 =
+      proves-mut others (plain (λ _. byteAnswer .row)) 𝓤 H 𝓜 𝓖 𝓡 γ name bytes (closed 𝓤 H 𝓜 𝓡) (clauses 𝓤) (λ κs qs b o δ ys a g. walk 𝓤 H (𝓖 .A) (givenOf 𝓤 H 𝓜 𝓖) (𝓜 .mem) (𝓡 .run) κs qs b o δ ys (a .0) (a .1 .0) (a .1 .1) (tablesOf 𝓤 H 𝓜 (tables 𝓤 H 𝓜 𝓡 γ)) (refusal-known 𝓤 H 𝓜 𝓖 𝓡 γ number) (cited 𝓤 H _ 𝓜 𝓡 γ open′.Symbol.name open′.Symbol.routine opened (open′.Met.met 𝓤 H 𝓜 𝓖 𝓡)) (known-free 𝓤 H 𝓜 𝓖 𝓡) (known-work 𝓤 H 𝓜 𝓖 𝓡) (known-answer 𝓤 H 𝓜 𝓖 𝓡))

@@ -7,7 +7,7 @@
 -- Assumes nothing.
 use Rattle.ground.proofs.Names.{none, suc, arith, _++_, eqb→eq, length-set}
 use prog.Routine as routine
-use Rattle.lent.proofs.Logic.{_≡_, refl, sym, ap, subst, ℕ, _-_, List, [], _∷_, URA, fullShare, named, w8, vint, length, getD, set, SProp, emp, via, fst∗, GName, flft, Memory, Routine, Heap, Tables, Atoms, Fun, fact, givenOf, tables, tablesOf, Given, ‵, raw, _⊛_, _$_, _∵_, !, qed, move, drop, split, join, fsplit, fjoin, suffices, frame, done, agg, look, init, forget, lit, of-opd, bin, and-then, no-more, returns, enter, params1, pass1, fmOf, owns, Is, pureI, sliceVal, at-slice, Room, slice-vals, mut-slice-tells, row, opens-slice, closes-slice, plain, owned, Bound, tripleOf, Contract, Triple, says, Stays, stay-slice, goes-slice, ends-at, yes, Name, Fn, Local, place, field, deref, seq, assign, cond, skip, return, copy, int, rvOpd, op2, eq, aggregate, addrOf, Model, Closed, Env, spotOf, Lfts, Shares, toks, Running, GhostRules, use0, now, pureL, mutSliceOf, typesAt, Ended, Clauses, closing, all, call}
+use Rattle.lent.proofs.Logic.{_≡_, refl, sym, ap, subst, ℕ, _-_, List, [], _∷_, URA, fullShare, w8, vint, length, getD, set, SProp, emp, GName, flft, Memory, Routine, Heap, Tables, Atoms, Fun, fact, givenOf, tables, tablesOf, Given, ‵, raw, _⊛_, _$_, _∵_, !, qed, move, drop, split, join, fsplit, fjoin, suffices, frame, done, agg, look, init, forget, lit, of-opd, bin, and-then, no-more, returns, enter, params1, pass1, fmOf, owns, Is, pureI, sliceVal, at-slice, Room, slice-vals, row, opens-slice, closes-slice, plain, owned, Bound, tripleOf, Contract, Triple, says, ends-at, Name, Fn, Local, place, field, deref, seq, assign, cond, skip, return, copy, int, rvOpd, op2, eq, aggregate, addrOf, Env, spotOf, Lfts, Shares, toks, use0, now, pureL, typesAt, Ended, Clauses, closing, call}
 use Rattle.device.specs.PowerUp.{powerUp}
 use Rattle.device.specs.declared.Device.{Device}
 use Rattle.calls.specs.Calls.{Step, give}
@@ -21,8 +21,9 @@ use Rattle.lent.proofs.Records.{size, byte, device, device-sized, recordBytes}
 use Rattle.lent.proofs.Locals.{span, values, envOf, starts, leaves, var, sets, lands-in, count, target}
 use Rattle.shapes.proofs.Handed.{starts-first, leaves-first, hands, hands-back, calls-on}
 use Rattle.shapes.proofs.Replaces.{no-more as at-end, store-locals, sliceOf, replacing, replaces}
-use Rattle.lent.proofs.Walk.{Walk, lands-known, joins, proves}
-use Rattle.lent.proofs.Params.{Sent, Kind, held, outers, Seen, seens, Args, sents, spelled, told, machine, Good, stays, goes, ends, fits, Had, has, locals-of, operands, after, env, spot-after, alloc-all, pass-all, FnOf}
+use Rattle.lent.proofs.Walk.{Walk, lands-known, joins}
+use Rattle.lent.proofs.Params.{Sent, Kind, held, Seen, seens, Args, sents, machine, Good, ends, fits, Had, has, locals-of, operands, after, env, spot-after, alloc-all, pass-all, FnOf}
+use Rattle.shapes.proofs.Rows.{Known, Closes, on-mut, stays-mut, proves-mut, refusal-known}
 use Rattle.shapes.proofs.Steps.{not-zero, ref, CallRefusal, numbers-mut}
 use Rattle.lent.proofs.call_refusal.Symbol as number-def
 
@@ -56,7 +57,7 @@ module _ (own work : Name) (k : ℕ) (Ks : List (Kind k)) (step : Seen Ks → St
   }
 
   abbrev pub ended : Ended
-  ended = record { signature = record { lifetimes = suc k; outlives = []; params = mutSliceOf (0 ∷ []) tt (plain (λ _. device .row)) ∷ outers (held size ∷ Ks); result = plain (λ _. byte .row) }; kept = (yes, all yes (outers (held size ∷ Ks))) }
+  ended = on-mut (held size ∷ Ks) (plain (λ _. byte .row))
 
   abbrev pub clauses : {M : Type 1} (𝓤 : URA M) → Clauses 𝓤 ended
   clauses 𝓤 κs a = record {
@@ -64,9 +65,6 @@ module _ (own work : Name) (k : ℕ) (Ks : List (Kind k)) (step : Seen Ks → St
     requires = λ _. emp 𝓤;
     ensures = λ _ r e. fact 𝓤 (outcome (give (a .1 .0) (step (seens (κs .1) Ks (sents κs Ks (a .1 .1))))) (now (a .0)) ≡ record { number = r; records = now (e .0); back = [] });
   }
-
-  abbrev stayed : Stays (ended .signature .params) (ended .kept)
-  stayed = (stay-slice (0 ∷ []) tt (plain (λ _. device .row)), stays (held size ∷ Ks))
 
   abbrev ψ-own : Seen Ks → ℕ → Type 0
   ψ-own p r = r ≡ stepRefusal (step p)
@@ -97,7 +95,7 @@ module _ (own work : Name) (k : ℕ) (Ks : List (Kind k)) (step : Seen Ks → St
     abbrev Left : Type 0
     Left = (zs : List Device) × ((outcome (give j st) ys ≡ record { number = nr; records = zs; back = [] }) × (length zs ≡ length ys))
 
-    walk : (𝓣 : Tables 𝓤 H) → Triple 𝓤 (𝓣 .C number-def.name) (CallRefusal 𝓤 H A mem run) → Triple 𝓤 (𝓣 .C own) (Own 𝓤 H A) → Triple 𝓤 (𝓣 .C work) (Work 𝓤 H A) → Room (device .row) (length ys) → Good κs (held size ∷ Ks) (j, xs) → Walk 𝓤 H A ended stayed (clauses 𝓤) 𝓣 gives y tt
+    walk : (𝓣 : Tables 𝓤 H) → Triple 𝓤 (𝓣 .C number-def.name) (CallRefusal 𝓤 H A mem run) → Triple 𝓤 (𝓣 .C own) (Own 𝓤 H A) → Triple 𝓤 (𝓣 .C work) (Work 𝓤 H A) → Room (device .row) (length ys) → Good κs (held size ∷ Ks) (j, xs) → Walk 𝓤 H A ended (stays-mut (held size ∷ Ks) (plain (λ _. byte .row))) (clauses 𝓤) 𝓣 gives y tt
     walk 𝓣 known-number known-own known-work room is =
         qed W ((‵ (flft (κs .0) (qs .0)) ⊛ raw (toks 𝓤 A k (κs .1) (qs .1))) ∷ ‵ (owns (typesAt (ended .signature .params) κs) (y .3) (y .4)) ∷ []) ∵ enter ! (𝓣 .C) (𝓣 .Λ) gives _ _ $
         starts-first W first ! (λ l D dies. alloc-all ! Ks (λ bs. starts W locals ! (λ m D′ dies′. params1 ! $
@@ -123,16 +121,12 @@ module _ (own work : Name) (k : ℕ) (Ks : List (Kind k)) (step : Seen Ks → St
         -- [obs; the borrow; the token; what is handed on; _1; the nine others, from 5; own, at 14; number; that they die; _0 at 17; _2; that they die]
         returns ! (look ! 17 refl) $ move ! (17 ∷ 4 ∷ 18 ∷ 19 ∷ []) $ leaves-first W dies (some _ ∷ some _ ∷ some _ ∷ []) ! $ move ! (3 ∷ []) $ hands-back κs qs Ks bs ! xs′ $
         move ! (13 ∷ 14 ∷ (span 4 9 ++ (15 ∷ []))) $ leaves W dies′ (some _ ∷ some _ ∷ none ∷ none ∷ some _ ∷ some _ ∷ some _ ∷ []) ! $
-        suffices ! _ (ends-at 𝓤 H A ended stayed (clauses 𝓤) W (y, tt) (vint w8 nr) nr (x .0, ends κs (held size ∷ Ks) (j, xs)) (x .1 .1, fits κs (held size ∷ Ks) (j, xs))) $ says ! (x .1 .0) $
+        suffices ! _ (ends-at 𝓤 H A ended (stays-mut (held size ∷ Ks) (plain (λ _. byte .row))) (clauses 𝓤) W (y, tt) (vint w8 nr) nr (x .0, ends κs (held size ∷ Ks) (j, xs)) (x .1 .1, fits κs (held size ∷ Ks) (j, xs))) $ says ! (x .1 .0) $
         move ! (3 ∷ 0 ∷ []) $ join ! $ frame ! $ fjoin ! $ pureI ! (at-slice (device .row) (ref γ b o (x .0)) (slice-vals (ref γ b o ys))) (tt, (tt, tt)) (ap (λ (n : ℕ). sliceVal (b, o) n ∷ []) (sym (x .1 .1)), subst (Room (device .row)) (sym (x .1 .1)) room) $ fjoin ! $
         use0 W (‵ (Had κs (held size ∷ Ks) (j, xs))) (has 𝓤 H A W κs (held size ∷ Ks) (j, xs)) $ move ! (1 ∷ 0 ∷ []) $ fjoin ! $ frame ! $
         owned ! (byte .row) (Is (byte .row)) (byte .makes 𝓤 H A W) nr _ is-nr $ done !))))))))
 
-  pub gives-spec : {M : Type 1} (𝓤 : URA M) (H : Heap 𝓤) (𝓜 : Model 𝓤 H) (𝓖 : GhostRules 𝓤 H) (𝓡 : Running 𝓤 H 𝓜) (γ : routine.Env) (name : Name) → Closed 𝓤 H (tables 𝓤 H 𝓜 𝓡 γ .C) (tables 𝓤 H 𝓜 𝓡 γ .Λ) name gives
-      → Triple 𝓤 (𝓡 .run (γ number-def.name)) (CallRefusal 𝓤 H (𝓖 .A) (𝓜 .mem) (𝓡 .run)) → Triple 𝓤 (𝓡 .run (γ own)) (Own 𝓤 H (𝓖 .A)) → Triple 𝓤 (𝓡 .run (γ work)) (Work 𝓤 H (𝓖 .A))
-      → Triple 𝓤 (𝓡 .run (γ name)) (tripleOf 𝓤 H (𝓖 .A) (ended .signature) (closing 𝓤 H (𝓖 .A) ended (clauses 𝓤)))
+  pub gives-spec : {M : Type 1} (γ : routine.Env) (name : Name) → Closes M γ name gives → γ number-def.name ≡ number-def.routine → Known M (γ own) Own → Known M (γ work) Work → Known M (γ name) (λ 𝓤 H A. tripleOf 𝓤 H A (ended .signature) (closing 𝓤 H A ended (clauses 𝓤)))
   unfolding tablesOf
-  gives-spec 𝓤 H 𝓜 𝓖 𝓡 γ name closed known-number known-own known-work =
-      proves 𝓤 H 𝓜 𝓖 𝓡 γ ended stayed (clauses 𝓤) (goes-slice 𝓤 H (𝓖 .A) (givenOf 𝓤 H 𝓜 𝓖) (suc k) 0 tt (plain (λ _. device .row)), goes 𝓤 H (𝓖 .A) (givenOf 𝓤 H 𝓜 𝓖) (held size ∷ Ks))
-      name gives closed (λ κs. (slice-vals, spelled κs (held size ∷ Ks))) (λ κs. (mut-slice-tells (named 0) (κs .0) (device .row), told κs (held size ∷ Ks)))
-      (λ κs qs bounds a g are. via 𝓤 _ (fst∗ 𝓤 _ (emp 𝓤)) (walk 𝓤 H (𝓖 .A) (givenOf 𝓤 H 𝓜 𝓖) (𝓜 .mem) (𝓡 .run) κs qs (a .0 .ptr .0) (a .0 .ptr .1) (a .0 .name) (a .0 .now) (a .1 .0) (a .1 .1) (tablesOf 𝓤 H 𝓜 (tables 𝓤 H 𝓜 𝓡 γ)) known-number known-own known-work (are .0 .0 .1) (are .1)))
+  gives-spec γ name closed number known-own known-work 𝓤 H 𝓜 𝓖 𝓡 =
+      proves-mut (held size ∷ Ks) (plain (λ _. byte .row)) 𝓤 H 𝓜 𝓖 𝓡 γ name gives (closed 𝓤 H 𝓜 𝓡) (clauses 𝓤) (λ κs qs b o δ ys a g. walk 𝓤 H (𝓖 .A) (givenOf 𝓤 H 𝓜 𝓖) (𝓜 .mem) (𝓡 .run) κs qs b o δ ys (a .0) (a .1) (tablesOf 𝓤 H 𝓜 (tables 𝓤 H 𝓜 𝓡 γ)) (refusal-known 𝓤 H 𝓜 𝓖 𝓡 γ number) (known-own 𝓤 H 𝓜 𝓖 𝓡) (known-work 𝓤 H 𝓜 𝓖 𝓡))

@@ -6,7 +6,7 @@
 -- Assumes nothing.
 use mathlib.Core.Option.{some}
 use prog.Routine as routine
-use Rattle.lent.proofs.Logic.{join, split, _≡_, refl, ℕ, List, [], _∷_, lit<, length, URA, named, w8, w64, SProp, emp, id⊢, via, fst∗, Lft, Share, ftrue, flft, Memory, Routine, Heap, Tables, Atoms, Fun, fact, givenOf, tables, tablesOf, Given, ‵, _⊛_, _$_, _∵_, !, qed, move, drop, fsplit, fjoin, suffices, frame, done, look, init, lit, of-opd, and-then, no-more, returns, enter, params1, pass1, pass0, fmOf, owns, Is, RefT, ShrSlice, slice-vals, shr-slice-tells, plain, nothing, owned, Bound, tripleOf, Contract, Triple, says, Stays, ends-at, yes, Name, Fn, Local, tyRef, imm, place, field, seq, assign, return, copy, int, rvOpd, Model, Closed, Running, GhostRules, use0, pointee, now, sliceTy, shrSliceOf, typesAt, Ended, Clauses, closing, all, stay-dropped, goes-dropped, call}
+use Rattle.lent.proofs.Logic.{join, split, _≡_, refl, ℕ, List, [], _∷_, lit<, length, URA, named, w8, w64, SProp, emp, id⊢, Lft, Share, ftrue, flft, Memory, Routine, Heap, Tables, Atoms, Fun, fact, givenOf, tables, tablesOf, Given, ‵, _⊛_, _$_, _∵_, !, qed, move, drop, fsplit, fjoin, suffices, frame, done, look, init, lit, of-opd, and-then, no-more, returns, enter, params1, pass1, pass0, fmOf, owns, Is, RefT, ShrSlice, slice-vals, plain, nothing, owned, Bound, tripleOf, Contract, Triple, says, ends-at, Name, Fn, Local, tyRef, imm, place, field, seq, assign, return, copy, int, rvOpd, use0, pointee, now, sliceTy, typesAt, Ended, Clauses, closing, call}
 use Rattle.device.specs.declared.Device.{Device}
 use Rattle.bus.specs.declared.Bus.{Bus}
 use Rattle.bus.specs.BusCalls.{BusCall}
@@ -17,11 +17,12 @@ use Rattle.transfers.specs.declared.BusAnswer.{BusAnswer}
 use Rattle.transfers.specs.declared.Straps.{Straps}
 use Rattle.transfers.proofs.BusLaws.{movedTo, foundFrom}
 use Rattle.lent.proofs.Records.{size, byte, device}
-use Rattle.lent.proofs.Walk.{Walk, calls-value, value-fn, value-says, proves}
+use Rattle.lent.proofs.Walk.{Walk, calls-value, value-fn, value-says}
 use Rattle.lent.proofs.Locals.{span, values, starts, leaves, var, sets, lands-in, count}
-use Rattle.lent.proofs.Params.{Kind, held, outers, spelled, told, machine, Good, stays, goes, ends, fits, Had, has}
+use Rattle.lent.proofs.Params.{Kind, held, machine, Good, ends, fits, Had, has}
 use Rattle.lent.proofs.call_refusal.Symbol as number-def
 use Rattle.shapes.proofs.BusTypes.{busState, strapsGiven, busAnswer}
+use Rattle.shapes.proofs.Rows.{Known, Closes, on-shared, stays-shared, proves-shared, refusal-known}
 use Rattle.shapes.proofs.Steps.{CallRefusal, numbers}
 
 -- the parameters after the parts
@@ -44,7 +45,7 @@ module _ (answer : Name) (left : Bus) (q : BusCall) (law : (ds : List Device) (�
   }
 
   abbrev pub ended : Ended
-  ended = record { signature = record { lifetimes = 1; outlives = []; params = shrSliceOf (0 ∷ []) tt (plain (λ _. device .row)) ∷ outers others; result = plain (λ _. busAnswer .row) }; kept = (yes, all yes (outers others)) }
+  ended = on-shared others (plain (λ _. busAnswer .row))
 
   abbrev pub clauses : {M : Type 1} (𝓤 : URA M) → Clauses 𝓤 ended
   clauses 𝓤 κs a = record {
@@ -52,9 +53,6 @@ module _ (answer : Name) (left : Bus) (q : BusCall) (law : (ds : List Device) (�
     requires = λ _. emp 𝓤;
     ensures = λ _ r e. fact 𝓤 (busOutcome (a .1 .1 .0 .addresses) q (a .1 .0) (now (a .0)) ≡ record { number = r .number; bus = r .bus; records = now (a .0); back = [] });
   }
-
-  abbrev stayed : Stays (ended .signature .params) (ended .kept)
-  stayed = (stay-dropped (shrSliceOf (0 ∷ []) tt (plain (λ _. device .row))) yes, stays others)
 
   abbrev pub Answer : {M : Type 1} (𝓤 : URA M) (H : Heap 𝓤) (A : Atoms 𝓤) → Contract 𝓤
   Answer 𝓤 H A = tripleOf 𝓤 H A (value-fn (byte ∷ size ∷ busState ∷ strapsGiven ∷ []) busAnswer .signature) (closing 𝓤 H A (value-fn (byte ∷ size ∷ busState ∷ strapsGiven ∷ []) busAnswer) (value-says 𝓤 (byte ∷ size ∷ busState ∷ strapsGiven ∷ []) busAnswer (λ _. emp 𝓤) (λ a. moved (refusalFrom (a .0) (a .1 .0) (a .1 .1 .0) (a .1 .1 .1 .0 .addresses)) (a .1 .1 .0) left)))
@@ -72,7 +70,7 @@ module _ (answer : Name) (left : Bus) (q : BusCall) (law : (ds : List Device) (�
     abbrev r : BusAnswer
     r = moved (refusalFrom early (length ys) β (σ .addresses)) β left
 
-    walk : (𝓣 : Tables 𝓤 H) → Triple 𝓤 (𝓣 .C number-def.name) (CallRefusal 𝓤 H A mem run) → Triple 𝓤 (𝓣 .C answer) (Answer 𝓤 H A) → Is (ShrSlice (named 0) κ (device .row)) x (slice-vals x) → Good (κ, tt) others (β, (σ, tt)) → Walk 𝓤 H A ended stayed (clauses 𝓤) 𝓣 moves y tt
+    walk : (𝓣 : Tables 𝓤 H) → Triple 𝓤 (𝓣 .C number-def.name) (CallRefusal 𝓤 H A mem run) → Triple 𝓤 (𝓣 .C answer) (Answer 𝓤 H A) → Is (ShrSlice (named 0) κ (device .row)) x (slice-vals x) → Good (κ, tt) others (β, (σ, tt)) → Walk 𝓤 H A ended (stays-shared others (plain (λ _. busAnswer .row))) (clauses 𝓤) 𝓣 moves y tt
     walk 𝓣 known-number known-answer is-x good =
         qed W ((‵ (flft κ share) ⊛ ‵ ftrue) ∷ ‵ (owns (typesAt (ended .signature .params) (κ, tt)) (y .3) (y .4)) ∷ []) ∵ enter ! (𝓣 .C) (𝓣 .Λ) moves _ _ $
         starts W locals ! (λ l D dies. params1 ! $ pass1 ! (init ! 1 refl (tt, (tt, (record { fits = is-x .0 .1 .0 }, tt)))) $ pass1 ! (init ! 2 refl (busState .typed 𝓤 H A W β (good .0))) $ pass1 ! (init ! 3 refl (strapsGiven .typed 𝓤 H A W σ (good .1 .0))) $ pass0 ! $
@@ -83,14 +81,10 @@ module _ (answer : Name) (left : Bus) (q : BusCall) (law : (ds : List Device) (�
         calls-value ! (fmOf 𝓤 H (W .laws) 𝓣) (byte ∷ size ∷ busState ∷ strapsGiven ∷ []) busAnswer (λ _. emp 𝓤) (λ a. moved (refusalFrom (a .0) (a .1 .0) (a .1 .1 .0) (a .1 .1 .1 .0 .addresses)) (a .1 .1 .0) left) known-answer (early, (length ys, (β, (σ, tt)))) (is-early, ((refl, is-x .0 .1 .0), (good .0, (good .1 .0, tt)))) (id⊢ 𝓤 _)
         (and-then ! (var ! 9 refl refl) (and-then ! (var ! 8 refl refl) (and-then ! (var ! 6 refl refl) (and-then ! (var ! 7 refl refl) (no-more !))))) (λ is-r wt-r. lands-in ! 3 refl refl wt-r $
         drop ! $ join ! $ returns ! (look ! 1 refl) $ move ! (span 1 7) $ leaves W dies (some _ ∷ some _ ∷ some _ ∷ some _ ∷ some _ ∷ some _ ∷ []) ! $
-        suffices ! _ (ends-at 𝓤 H A ended stayed (clauses 𝓤) W (y, tt) (busAnswer .val r) r (tt, ends (κ, tt) others (β, (σ, tt))) (tt, fits (κ, tt) others (β, (σ, tt)))) $ says ! (law ys β (σ .addresses)) $
+        suffices ! _ (ends-at 𝓤 H A ended (stays-shared others (plain (λ _. busAnswer .row))) (clauses 𝓤) W (y, tt) (busAnswer .val r) r (tt, ends (κ, tt) others (β, (σ, tt))) (tt, fits (κ, tt) others (β, (σ, tt)))) $ says ! (law ys β (σ .addresses)) $
         frame ! $ nothing ! $ use0 W (‵ (Had (κ, tt) others (β, (σ, tt)))) (has 𝓤 H A W (κ, tt) others (β, (σ, tt))) $ move ! (1 ∷ 0 ∷ []) $ fjoin ! $ frame ! $ owned ! (busAnswer .row) (Is (busAnswer .row)) (busAnswer .makes 𝓤 H A W) r _ is-r $ done !)))
 
-  pub moves-spec : {M : Type 1} (𝓤 : URA M) (H : Heap 𝓤) (𝓜 : Model 𝓤 H) (𝓖 : GhostRules 𝓤 H) (𝓡 : Running 𝓤 H 𝓜) (γ : routine.Env) (name : Name) → Closed 𝓤 H (tables 𝓤 H 𝓜 𝓡 γ .C) (tables 𝓤 H 𝓜 𝓡 γ .Λ) name moves
-      → Triple 𝓤 (𝓡 .run (γ number-def.name)) (CallRefusal 𝓤 H (𝓖 .A) (𝓜 .mem) (𝓡 .run)) → Triple 𝓤 (𝓡 .run (γ answer)) (Answer 𝓤 H (𝓖 .A))
-      → Triple 𝓤 (𝓡 .run (γ name)) (tripleOf 𝓤 H (𝓖 .A) (ended .signature) (closing 𝓤 H (𝓖 .A) ended (clauses 𝓤)))
+  pub moves-spec : {M : Type 1} (γ : routine.Env) (name : Name) → Closes M γ name moves → γ number-def.name ≡ number-def.routine → Known M (γ answer) Answer → Known M (γ name) (λ 𝓤 H A. tripleOf 𝓤 H A (ended .signature) (closing 𝓤 H A ended (clauses 𝓤)))
   unfolding tablesOf
-  moves-spec 𝓤 H 𝓜 𝓖 𝓡 γ name closed known-number known-answer =
-      proves 𝓤 H 𝓜 𝓖 𝓡 γ ended stayed (clauses 𝓤) (goes-dropped 𝓤 H (𝓖 .A) (givenOf 𝓤 H 𝓜 𝓖) 1 (shrSliceOf (0 ∷ []) tt (plain (λ _. device .row))) yes (λ κs x f. refl), goes 𝓤 H (𝓖 .A) (givenOf 𝓤 H 𝓜 𝓖) others)
-      name moves closed (λ κs. (slice-vals, spelled κs others)) (λ κs. (shr-slice-tells (named 0) (κs .0) (device .row), told κs others))
-      (λ κs qs bounds a g are. via 𝓤 _ (fst∗ 𝓤 _ (emp 𝓤)) (walk 𝓤 H (𝓖 .A) (givenOf 𝓤 H 𝓜 𝓖) (𝓜 .mem) (𝓡 .run) (κs .0) (qs .0) (a .0) (a .1 .0) (a .1 .1 .0) (tablesOf 𝓤 H 𝓜 (tables 𝓤 H 𝓜 𝓡 γ)) known-number known-answer (are .0) (are .1)))
+  moves-spec γ name closed number known-answer 𝓤 H 𝓜 𝓖 𝓡 =
+      proves-shared others (plain (λ _. busAnswer .row)) 𝓤 H 𝓜 𝓖 𝓡 γ name moves (closed 𝓤 H 𝓜 𝓡) (clauses 𝓤) (λ κs qs x a g. walk 𝓤 H (𝓖 .A) (givenOf 𝓤 H 𝓜 𝓖) (𝓜 .mem) (𝓡 .run) (κs .0) (qs .0) x (a .0) (a .1 .0) (tablesOf 𝓤 H 𝓜 (tables 𝓤 H 𝓜 𝓡 γ)) (refusal-known 𝓤 H 𝓜 𝓖 𝓡 γ number) (known-answer 𝓤 H 𝓜 𝓖 𝓡))

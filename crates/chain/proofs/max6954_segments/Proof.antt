@@ -1,25 +1,21 @@
 -- `chain::max6954_segments` has the shape of `Asks.antt`.
 -- Assumes nothing.
-use Rattle.ground.proofs.Names.{_≡_, [], _∷_, tabulate}
-use Rattle.lent.proofs.Logic.{w16}
+use Rattle.ground.proofs.Names.{tabulate}
 use Rattle.display.specs.Pins.{pinCode, segmentsOf}
 use Rattle.display.specs.declared.Pin.the-variants.{NotDriven}
 use Rattle.calls.specs.Calls.{segments}
-use Rattle.lent.proofs.Records.{size}
-use Rattle.lent.proofs.Params.{held, lent}
 use Rattle.chain.proofs.Answers.{segmentAnswer}
-use Rattle.lent.proofs.call_refusal as number
 use Rattle.display.proofs.segments_refusal as own
 use Rattle.answers.proofs.segments_refused as refused
 use Rattle.display.proofs.segments as work
-use Rattle.shapes.proofs.Asks.{asks-spec}
+use Rattle.shapes.proofs.Names.{_≡_, refl, [], _∷_, w16, size, held, lent, asks-spec}
 use Rattle.chain.proofs.max6954_segments as this
 
 pub max6954-segments-spec : {M : Type 1} → this.Statement.statement M
 unfolding this.Code.routine
-max6954-segments-spec 𝓤 H 𝓜 𝓖 𝓡 =
+max6954-segments-spec =
     asks-spec own.Symbol.name refused.Symbol.name work.Symbol.name 2 (held size ∷ lent w16 0 tt ∷ lent w16 1 tt ∷ []) (held segmentAnswer) (λ p. segments (p .0) (p .1 .0) (p .1 .1 .0))
     (λ r ds x. x ≡ record { number = r .number; records = ds; back = r .pins })
     (λ p r. r ≡ record { number = p .0; pins = tabulate 19 (λ k. pinCode NotDriven) }) (λ n p r ds e. rw e)
     (λ p r. r ≡ segmentsOf (p .0) (p .1 .0) (p .1 .1 .0) (p .1 .1 .1 .0)) (λ d p r ds z e. rw (e, z))
-    𝓤 H 𝓜 𝓖 𝓡 this.Code.env this.Key.name (this.Code.unfolded 𝓤 H 𝓜 𝓡) (number.Met.met 𝓤 H 𝓜 𝓖 𝓡) (own.Met.met 𝓤 H 𝓜 𝓖 𝓡) (refused.Met.met 𝓤 H 𝓜 𝓖 𝓡) (work.Met.met 𝓤 H 𝓜 𝓖 𝓡)
+    this.Code.env this.Key.name this.Code.unfolded refl own.Met.met refused.Met.met work.Met.met

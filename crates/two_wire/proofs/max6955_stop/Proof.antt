@@ -3,12 +3,11 @@
 use Rattle.bus.specs.States.{idle, busOf}
 use Rattle.bus.specs.BusCalls.{stop}
 use Rattle.transfers.proofs.BusLaws.{stops}
-use Rattle.lent.proofs.call_refusal as number
 use Rattle.transfers.proofs.stop_answer as answer
-use Rattle.shapes.proofs.Moves.{moves-spec}
+use Rattle.shapes.proofs.Names.{refl, moves-spec}
 use Rattle.two_wire.proofs.max6955_stop as this
 
 pub max6955-stop-spec : {M : Type 1} → this.Statement.statement M
 unfolding this.Code.routine
-max6955-stop-spec 𝓤 H 𝓜 𝓖 𝓡 =
-    moves-spec answer.Symbol.name (busOf idle) stop stops 𝓤 H 𝓜 𝓖 𝓡 this.Code.env this.Key.name (this.Code.unfolded 𝓤 H 𝓜 𝓡) (number.Met.met 𝓤 H 𝓜 𝓖 𝓡) (answer.Met.met 𝓤 H 𝓜 𝓖 𝓡)
+max6955-stop-spec =
+    moves-spec answer.Symbol.name (busOf idle) stop stops this.Code.env this.Key.name this.Code.unfolded refl answer.Met.met

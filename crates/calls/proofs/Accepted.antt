@@ -1,6 +1,6 @@
 -- What a call's number says of its arguments and of the chain, and what the call does by it.
 -- Assumes nothing.
-use Rattle.ground.proofs.Names.{ℕ, _≤_, _<_, arith, Bool, true, false, _&&_, List, [], _∷_, _≡_, refl, eqb, leb, ltb, length, leb-true, ltb-true, ltb-false, if, and-left, and-right, passed}
+use Rattle.ground.proofs.Names.{ℕ, zero, suc, _≤_, _<_, arith, Bool, true, false, _&&_, List, [], _∷_, _≡_, refl, eqb, leb, ltb, length, getD, leb-true, ltb-true, ltb-false, if, and-left, and-right, passed}
 use Rattle.refusals.specs.Refusals.{bytesFor, chainRefusal, driverRefusal, soundRefusal, firstOf, sizeRefusal}
 use Rattle.refusals.proofs.RefusalLaws.{first-zero, size-served as sizes-fit}
 use Rattle.device.specs.declared.Device.{Device}
@@ -18,20 +18,17 @@ pub record Accepted (n : ℕ) (sound : Bool) (q : Call) : Type 0 where
   pub all-sound : sound ≡ true
   pub contents : contentsRefusal n q ≡ 0
 
+-- the first number of a list that isn't 0 is 0: each is
+pub each-zero : (ks : List ℕ) → firstOf ks ≡ 0 → (i : ℕ) → getD ks i 0 ≡ 0
+each-zero [] e i = refl
+each-zero (k ∷ ks) e zero = first-zero k ks e .0
+each-zero (k ∷ ks) e (suc i) = each-zero ks (first-zero k ks e .1) i
+
 -- each rule of the table gave 0
 pub zero-says : (n : ℕ) (sound : Bool) (shortest : ℕ) (q : Call) → refusalBy n sound shortest q ≡ 0 → Accepted n sound q
 zero-says n sound shortest q z =
-    let all = go (chainRefusal n) (namedRefusal n q) (bytesRefusal q) (argumentRefusal q) (soundRefusal sound) (contentsRefusal n q) z in
-    record { named = all .0; bytes = all .1; argument = all .2; all-sound = passed sound 0 6 (all .3) .0; contents = all .4 }
-  where
-    go : (a b c d e f : ℕ) → firstOf (a ∷ b ∷ c ∷ d ∷ e ∷ f ∷ shortest ∷ []) ≡ 0 → (b ≡ 0) × (c ≡ 0) × (d ≡ 0) × (e ≡ 0) × (f ≡ 0)
-    go a b c d e f z =
-        let z₁ = first-zero a (b ∷ c ∷ d ∷ e ∷ f ∷ shortest ∷ []) z .1 in
-        let z₂ = first-zero b (c ∷ d ∷ e ∷ f ∷ shortest ∷ []) z₁ in
-        let z₃ = first-zero c (d ∷ e ∷ f ∷ shortest ∷ []) (z₂ .1) in
-        let z₄ = first-zero d (e ∷ f ∷ shortest ∷ []) (z₃ .1) in
-        let z₅ = first-zero e (f ∷ shortest ∷ []) (z₄ .1) in
-        (z₂ .0, z₃ .0, z₄ .0, z₅ .0, first-zero f (shortest ∷ []) (z₅ .1) .0)
+    let each = each-zero (chainRefusal n ∷ namedRefusal n q ∷ bytesRefusal q ∷ argumentRefusal q ∷ soundRefusal sound ∷ contentsRefusal n q ∷ shortest ∷ []) z in
+    record { named = each 1; bytes = each 2; argument = each 3; all-sound = passed sound 0 6 (each 4) .0; contents = each 5 }
 
 pub number-says : (q : Call) (ds : List Device) → number q ds ≡ 0 → Accepted (length ds) (allSound ds) q
 unfolding number
@@ -49,11 +46,7 @@ reply-zero q ds z = rw z
 -- one that changes no record where it is served changes none
 pub after-same : (q : Call) (ds : List Device) → served q ds ≡ ds → after q ds ≡ ds
 unfolding after
-after-same q ds e = go (eqb (number q ds) 0)
-  where
-    go : (b : Bool) → if b (served q ds) ds ≡ ds
-    go true = e
-    go false = refl
+after-same q ds e = elim (eqb (number q ds) 0) as (λ b. if b (served q ds) ds ≡ ds) [ true ↦ e | false ↦ refl ]
 
 -- a driver that is there
 pub driver-there : (n j : ℕ) → driverRefusal n j ≡ 0 → (1 ≤ j) × (j ≤ n)

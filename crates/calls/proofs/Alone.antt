@@ -7,7 +7,7 @@ use Rattle.device.specs.Taken.{taken}
 use Rattle.device.specs.declared.Device.{Device}
 use Rattle.calls.specs.Calls.{Step, Question, ChainQuestion, Call, access, give, ask, askChain}
 use Rattle.calls.specs.CallRefusals.{allSound, shortestRefusal}
-use Rattle.calls.specs.Served.{recordOf, stepped, answerTo, served, givenBack, refusedBack}
+use Rattle.calls.specs.Served.{recordOf, stepped, answerTo, served, givenBack}
 use Rattle.calls.specs.Outcome.{number, after, reply}
 use Rattle.calls.specs.CallLists.{afterAll, numbers, replies}
 use Rattle.calls.specs.Isolation.{refusalAlone, accepted, loneStep, loneReply, answeredBy, loneAfter, lone, loneReplies, allAnsweredBy, Full, AllFull, ownNumber, ownNumbers, Isolation}
@@ -69,22 +69,13 @@ record Stepped (n i : ℕ) (q : Call) (ds : List Device) : Type 0 where
 -- one call on sound records, whose number its arguments alone decide
 decided-own : (i : ℕ) (q : Call) (ds : List Device) → allSound ds ≡ true → shortestRefusal ds q ≡ 0 → Full (length ds) q → 1 ≤ i → i ≤ length ds
     → Stepped (length ds) i q ds
-decided-own i q ds s z f h g =
-    record {
-      left = rw (after-by n q ds refl s z) (go-left (accepted n q) refl);
-      back = rw (reply-by n q ds refl s z) (go-back (accepted n q) refl);
-    }
+decided-own i q ds s z f h g = go (accepted (length ds) q) refl
   where
-    n : ℕ
-    n = length ds
-
-    go-left : (b : Bool) → accepted n q ≡ b → recordOf (if b (served q ds) ds) i ≡ if b (loneStep n i q (recordOf ds i)) (recordOf ds i)
-    go-left true t = own i ds h g q f t .left
-    go-left false t = refl
-
-    go-back : (b : Bool) → accepted n q ≡ b → if b (answeredBy n i q (if b (givenBack q ds) (refusedBack q))) [] ≡ if b (loneReply i q (recordOf ds i)) []
-    go-back true t = own i ds h g q f t .back
-    go-back false t = refl
+    go : (b : Bool) → accepted (length ds) q ≡ b → Stepped (length ds) i q ds
+    go true t =
+        let o = own i ds h g q f t in
+        record { left = rw (after-by (length ds) q ds refl s z, t) (o .left); back = rw (reply-by (length ds) q ds refl s z, t) (o .back) }
+    go false t = record { left = rw (after-by (length ds) q ds refl s z, t); back = rw t }
 
 -- any call; what the chain is asked is nothing to a driver
 call-own : (i : ℕ) (q : Call) (ds : List Device) → allSound ds ≡ true → Full (length ds) q → 1 ≤ i → i ≤ length ds → Stepped (length ds) i q ds
@@ -92,11 +83,10 @@ call-own i (access c sent room) ds s f h g = decided-own i (access c sent room) 
 call-own i (give j x) ds s f h g = decided-own i (give j x) ds s refl f h g
 call-own i (ask j x) ds s f h g = decided-own i (ask j x) ds s refl f h g
 call-own i (askChain x) ds s f h g =
-    record { left = ap (λ (es : List Device). recordOf es i) (after-same (askChain x) ds refl) ∙ go (accepted (length ds) (askChain x)); back = refl }
-  where
-    go : (b : Bool) → recordOf ds i ≡ if b (recordOf ds i) (recordOf ds i)
-    go true = refl
-    go false = refl
+    record {
+      left = rw (after-same (askChain x) ds refl) (elim (accepted (length ds) (askChain x)) as (λ b. recordOf ds i ≡ if b (recordOf ds i) (recordOf ds i)) [ true ↦ refl | false ↦ refl ]);
+      back = refl;
+    }
 
 call-number : (n : ℕ) (q : Call) (ds : List Device) → length ds ≡ n → allSound ds ≡ true → ownNumber q (number q ds) ≡ ownNumber q (refusalAlone n q)
 call-number n (access c sent room) ds l s = ap (λ (k : ℕ). k ∷ []) (number-alone n (access c sent room) ds l s refl)

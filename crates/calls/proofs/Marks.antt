@@ -1,15 +1,15 @@
 -- The proof of `specs/AnswerMark.antt`'s theorem.
 -- Assumes nothing.
-use Rattle.ground.proofs.Names.{ℕ, _-_, _≤_, Bool, true, false, List, _≡_, refl, ap, _∙_, eqb, length, map-set-same, ne-eqb, if, bit}
-use Rattle.device.specs.PowerUp.{powerUp}
+use Rattle.ground.proofs.Names.{ℕ, _≤_, List, _≡_, refl, ap, _∙_, length, ne-eqb, if, bit}
 use Rattle.device.specs.declared.Device.{Device}
 use Rattle.device.proofs.Shift.{shift-word}
-use Rattle.calls.specs.Calls.{Step, scan, levels, clocks, Call, access, give, ask, askChain}
-use Rattle.calls.specs.Served.{recordOf, stepped, served}
+use Rattle.calls.specs.Calls.{Step, scan, levels, clocks, Call, access, ask, askChain}
+use Rattle.calls.specs.Served.{recordOf, stepped}
 use Rattle.calls.specs.Outcome.{number, after}
 use Rattle.calls.specs.NextAccess.{wordTaken}
 use Rattle.calls.specs.AnswerMark.{marks, AnswerMark}
 use Rattle.calls.proofs.Accepted.{after-zero, after-same}
+use Rattle.calls.proofs.Records.{given-same}
 use Rattle.calls.proofs.Answered.{taken-at}
 
 -- no step touches the mark
@@ -26,14 +26,6 @@ by-access ds c sent room i h g z =
     ∙ ap (λ (d : Device). d .«answer_mark») (taken-at ds i h g c sent room)
     ∙ shift-word .marked (recordOf ds i) (wordTaken ds c sent i)
 
-by-step : (ds : List Device) (j : ℕ) (s : Step) → marks (after (give j s) ds) ≡ marks ds
-unfolding after
-by-step ds j s = go (eqb (number (give j s) ds) 0)
-  where
-    go : (b : Bool) → marks (if b (served (give j s) ds) ds) ≡ marks ds
-    go true = map-set-same (λ (d : Device). d .«answer_mark») ds (j - 1) _ powerUp (same-mark s (recordOf ds j))
-    go false = refl
-
 by-refused : (ds : List Device) (q : Call) → (number q ds ≡ 0 → ⊥) → marks (after q ds) ≡ marks ds
 unfolding after
 by-refused ds q z = rw (ne-eqb (number q ds) 0 z)
@@ -42,7 +34,7 @@ pub answer-mark : AnswerMark
 answer-mark =
     record {
       by-access = by-access;
-      by-step = by-step;
+      by-step = λ ds j s. given-same (λ d. d .«answer_mark») same-mark j s ds;
       by-question = λ ds j q. ap marks (after-same (ask j q) ds refl);
       by-chain-question = λ ds q. ap marks (after-same (askChain q) ds refl);
       by-refused = by-refused;

@@ -1,6 +1,6 @@
 -- The proof of `specs/NextAccess.antt`'s theorem: what is given and asked between two accesses leaves every shift word as it is.
 -- Assumes nothing.
-use Rattle.ground.proofs.Names.{ℕ, _-_, _/_, _%_, _≤_, Bool, true, false, List, [], _∷_, _≡_, refl, sym, ap, _∙_, length, getD, length-map, List·getD-map, map-set-same, if, bit}
+use Rattle.ground.proofs.Names.{ℕ, _-_, _/_, _%_, _≤_, true, List, [], _∷_, _≡_, refl, sym, ap, _∙_, length, getD, length-map, List·getD-map, bit}
 use Rattle.words.specs.Addresses.{readAt}
 use Rattle.wire.specs.Bits.{bits, value}
 use Rattle.registers.specs.Registers.{dataOf}
@@ -10,13 +10,13 @@ use Rattle.device.specs.declared.Device.{Device}
 use Rattle.device.proofs.Shift.{shift-word}
 use Rattle.calls.specs.Calls.{Step, scan, levels, clocks, Call, access, give, ask, askChain}
 use Rattle.calls.specs.CallRefusals.{allSound}
-use Rattle.calls.specs.Served.{recordOf, shiftWords, stepped, served}
+use Rattle.calls.specs.Served.{recordOf, shiftWords, stepped}
 use Rattle.calls.specs.Outcome.{number, after, reply}
 use Rattle.calls.specs.CallLists.{afterAll}
-use Rattle.calls.specs.Isolation.{accepted, ownWord}
+use Rattle.calls.specs.Isolation.{ownWord}
 use Rattle.calls.specs.NextAccess.{NoAccess, wordTaken, NextAccess}
 use Rattle.calls.proofs.Accepted.{number-says, after-zero, reply-zero, sent-enough, after-same, after-by}
-use Rattle.calls.proofs.Records.{length-after, length-afterAll}
+use Rattle.calls.proofs.Records.{length-after, given-same, length-afterAll}
 use Rattle.calls.proofs.Sound.{after-sound}
 use Rattle.calls.proofs.Answered.{taken-at, own-answered}
 
@@ -26,30 +26,19 @@ same-shift (scan a b c d) x = refl
 same-shift (levels l) x = refl
 same-shift (clocks k) x = refl
 
-give-keeps : (j : ℕ) (s : Step) (ds : List Device) (b : Bool) → shiftWords (if b (served (give j s) ds) ds) ≡ shiftWords ds
-give-keeps j s ds true = map-set-same (λ (d : Device). d .shift) ds (j - 1) _ powerUp (same-shift s (recordOf ds j))
-give-keeps j s ds false = refl
-
 -- calls that are no accepted access leave the shift words as they are
 words-kept : (n : ℕ) (qs : List Call) (ds : List Device) → length ds ≡ n → allSound ds ≡ true → NoAccess n qs → shiftWords (afterAll qs ds) ≡ shiftWords ds
 unfolding afterAll NoAccess
 words-kept n [] ds l s f = refl
 words-kept n (access c sent room ∷ qs) ds l s f =
     let q = access c sent room in
-    words-kept n qs (after q ds) (length-after q ds ∙ l) (after-sound q ds s) (f .1)
-    ∙ ap shiftWords (after-by n q ds l s refl ∙ ap (λ (b : Bool). if b (served q ds) ds) (f .0))
-words-kept n (give j s′ ∷ qs) ds l s f =
-    let q = give j s′ in
-    words-kept n qs (after q ds) (length-after q ds ∙ l) (after-sound q ds s) f
-    ∙ ap shiftWords (after-by n q ds l s refl)
-    ∙ give-keeps j s′ ds (accepted n q)
+    words-kept n qs (after q ds) (length-after q ds ∙ l) (after-sound q ds s) (f .1) ∙ rw (after-by n q ds l s refl, f .0)
+words-kept n (give j x ∷ qs) ds l s f =
+    words-kept n qs _ (length-after (give j x) ds ∙ l) (after-sound (give j x) ds s) f ∙ given-same (λ d. d .shift) same-shift j x ds
 words-kept n (ask j x ∷ qs) ds l s f =
-    let q = ask j x in
-    words-kept n qs (after q ds) (length-after q ds ∙ l) (after-sound q ds s) f
-    ∙ ap shiftWords (after-same q ds refl)
+    words-kept n qs _ (length-after (ask j x) ds ∙ l) (after-sound (ask j x) ds s) f ∙ ap shiftWords (after-same (ask j x) ds refl)
 words-kept n (askChain x ∷ qs) ds l s f =
-    let q = askChain x in
-    words-kept n qs (after q ds) (length-after q ds ∙ l) (after-sound q ds s) f ∙ ap shiftWords (after-same q ds refl)
+    words-kept n qs _ (length-after (askChain x) ds ∙ l) (after-sound (askChain x) ds s) f ∙ ap shiftWords (after-same (askChain x) ds refl)
 
 -- a driver's shift word by the shift words
 shift-at : (ds : List Device) (i : ℕ) → getD (shiftWords ds) (i - 1) 0 ≡ recordOf ds i .shift

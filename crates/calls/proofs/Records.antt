@@ -1,12 +1,12 @@
 -- Lists of records: what each call leaves of their number, and when they are sound.
 -- Assumes nothing.
-use Rattle.ground.proofs.Names.{ℕ, zero, suc, _<_, arith, Bool, true, false, List, [], _∷_, _≡_, refl, sym, _∙_, eqb, length, getD, set, length-set, getD-set-same, getD-set-other, eqb-true, eqb-false, if, length-tabulate, and-left, and-right}
+use Rattle.ground.proofs.Names.{ℕ, zero, suc, _-_, _<_, arith, Bool, true, false, List, [], _∷_, map, _≡_, refl, sym, _∙_, eqb, length, getD, set, length-set, map-set-same, getD-set-same, getD-set-other, eqb-true, eqb-false, if, length-tabulate, and-left, and-right}
 use Rattle.device.specs.PowerUp.{powerUp}
 use Rattle.device.specs.Sound.{soundOf}
 use Rattle.device.specs.declared.Device.{Device}
-use Rattle.calls.specs.Calls.{Call, access, give, ask, askChain}
+use Rattle.calls.specs.Calls.{Step, Call, access, give, ask, askChain}
 use Rattle.calls.specs.CallRefusals.{allSound}
-use Rattle.calls.specs.Served.{served}
+use Rattle.calls.specs.Served.{recordOf, stepped, served}
 use Rattle.calls.specs.Outcome.{number, after}
 use Rattle.calls.specs.CallLists.{afterAll}
 
@@ -41,11 +41,15 @@ length-served (askChain q) ds = refl
 
 pub length-after : (q : Call) (ds : List Device) → length (after q ds) ≡ length ds
 unfolding after
-length-after q ds = go (eqb (number q ds) 0)
-  where
-    go : (b : Bool) → length (if b (served q ds) ds) ≡ length ds
-    go true = length-served q ds
-    go false = refl
+length-after q ds = elim (eqb (number q ds) 0) as (λ b. length (if b (served q ds) ds) ≡ length ds) [ true ↦ length-served q ds | false ↦ refl ]
+
+-- what no step touches is as it was after a driver is given one
+pub given-same : (f : Device → ℕ) → ((s : Step) (x : Device) → f (stepped s x) ≡ f x) → (j : ℕ) (s : Step) (ds : List Device)
+    → map f (after (give j s) ds) ≡ map f ds
+unfolding after
+given-same f e j s ds =
+    elim (eqb (number (give j s) ds) 0) as (λ b. map f (if b (served (give j s) ds) ds) ≡ map f ds)
+    [ true ↦ map-set-same f ds (j - 1) _ powerUp (e s (recordOf ds j)) | false ↦ refl ]
 
 pub length-afterAll : (qs : List Call) (ds : List Device) → length (afterAll qs ds) ≡ length ds
 unfolding afterAll

@@ -15,7 +15,7 @@ use Rattle.calls.proofs.Accepted.{Accepted, number-says, levels-fit}
 use Rattle.calls.proofs.Records.{sound-at, sound-all, sound-set}
 
 -- what a driver may be given leaves it sound
-stepped-sound : (s : Step) (x : Device) → stepRefusal s ≡ 0 → soundOf x ≡ true → soundOf (stepped s x) ≡ true
+pub stepped-sound : (s : Step) (x : Device) → stepRefusal s ≡ 0 → soundOf x ≡ true → soundOf (stepped s x) ≡ true
 stepped-sound (scan a b c d) x e = device-sound .after-scan x a b c d
 stepped-sound (levels l) x e = device-sound .after-pins x l (levels-fit l e)
 stepped-sound (clocks k) x e = device-sound .after-clocks x k

@@ -4,8 +4,7 @@ use Rattle.ground.proofs.Names.{refl, Agree}
 use Rattle.calls.specs.CallRefusals.{allSound}
 use Rattle.bus.specs.Straps.{placeOf, distinct, sevenBits}
 use Rattle.device.specs.TwoWire.{commanded, received, sentData, sent}
-use Rattle.bus.specs.BusOutcome.{number}
-use Rattle.bus.specs.BusOutcome.{busAfter, partsAfter, reply}
+use Rattle.bus.specs.BusOutcome.{number, busAfter, partsAfter, reply}
 use Rattle.bus.specs.BusLists.{busAll, partsAll, replies}
 use Rattle.bus.specs.BusExamples.{rows, numberRows, refusedRows, BusExamples}
 

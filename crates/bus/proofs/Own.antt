@@ -1,6 +1,6 @@
 -- What a served call leaves at part i's place, and gives back there: to its own calls, and to the others.
 -- Assumes nothing.
-use Rattle.ground.proofs.Names.{ℕ, zero, suc, _-_, _≤_, arith, not-suc-le-zero, true, false, true≢false, List, [], _∷_, _≡_, refl, sym, ap, eqb, ltb, length, take, getD-set-same, getD-set-other, getD-take, eqb-true, eqb-false, eq-eqb, if}
+use Rattle.ground.proofs.Names.{ℕ, zero, suc, _-_, _≤_, arith, not-suc-le-zero, true, false, true≢false, List, [], _∷_, _≡_, refl, sym, ap, eqb, length, take, getD-set-same, getD-set-other, getD-take, eqb-true, eqb-false, eq-eqb, if}
 use Rattle.device.specs.PowerUp.{powerUp}
 use Rattle.device.specs.declared.Device.{Device}
 use Rattle.calls.specs.Calls.{give as giveChain, ask as askChain}
@@ -12,9 +12,9 @@ use Rattle.bus.specs.BusCalls.{BusCall, start, put, get, stop, give, ask
 use Rattle.bus.specs.BusRefusals.{wireRefusal}
 use Rattle.bus.specs.BusServed.{slaveReply, served, givenBack}
 use Rattle.bus.specs.BusIsolation.{accepted, closed, ours, named, names, own, alone}
-use Rattle.bus.proofs.Straps.{seven-at}
+use Rattle.bus.proofs.Straps.{Served, seven-at}
 use Rattle.bus.proofs.States.{Named}
-use Rattle.bus.proofs.Accepted.{Served, wire-says, put-says}
+use Rattle.bus.proofs.Accepted.{wire-served}
 use Rattle.bus.proofs.Turns.{turnOf, view, ours-says, own-match}
 
 slave-reply : (i : ℕ) → 1 ≤ i → slaveReply 1 ≡ slaveReply i
@@ -26,14 +26,13 @@ module _ (n i : ℕ) (σ rest : List ℕ) (sixteen : length σ ≡ 16) (h : 1 �
   lone-wire : Served n σ → wireRefusal 1 true (strapOf σ i ∷ rest) ≡ 0
   unfolding placeOf distinct sevenBits
   lone-wire z =
-      let fits : ltb (strapOf σ i) 128 ≡ true = rw (getD-take n σ (i - 1) 0 (omega arith)) at (seven-at (take n σ) (z .seven) (i - 1)) in
-      rw fits
+      rw (rw (getD-take n σ (i - 1) 0 (omega arith)) at (seven-at (take n σ) (z .seven) (i - 1)))
 
   pub lone-accepted : (q : BusCall) → accepted n σ q ≡ true → accepted 1 (strapOf σ i ∷ rest) (alone q) ≡ true
-  lone-accepted start a = rw (lone-wire (wire-says n σ (eqb-true _ 0 a)))
-  lone-accepted (put v) a = rw (lone-wire (wire-says n σ (eqb-true _ 0 a)))
-  lone-accepted get a = rw (lone-wire (wire-says n σ (eqb-true _ 0 a)))
-  lone-accepted stop a = rw (lone-wire (wire-says n σ (eqb-true _ 0 a)))
+  lone-accepted start a = rw (lone-wire (wire-served n σ a))
+  lone-accepted (put v) a = rw (lone-wire (wire-served n σ a))
+  lone-accepted get a = rw (lone-wire (wire-served n σ a))
+  lone-accepted stop a = rw (lone-wire (wire-served n σ a))
   lone-accepted (give j x) a = rw (zero-says n true 0 (giveChain j x) (eqb-true _ 0 a) .argument)
   lone-accepted (ask j x) a = rw (zero-says n true 0 (askChain j x) (eqb-true _ 0 a) .argument)
 
@@ -51,7 +50,7 @@ module _ (n i : ℕ) (σ rest : List ℕ) (sixteen : length σ ≡ 16) (h : 1 �
     unfolding named
     put-own v idle qs a e = absurd (true≢false (sym e))
     put-own v slave qs a e =
-        let m = own-match n i σ rest sixteen h g (put-says n σ v a) v (rw a at e) in
+        let m = own-match n i σ rest sixteen h g v a (rw a at e) in
         record { left = refl; same = rw (m .0, m .1) (slave-reply i h) }
     put-own v unmatched qs a e = absurd (true≢false (sym e))
     put-own v (transfer k u) qs a e =

@@ -15,43 +15,42 @@ Named n slave = Unit {0}
 Named n unmatched = Unit {0}
 Named n (transfer k u) = (1 ≤ k) × (k ≤ n)
 
-free-named : (n : ℕ) (t t′ : Bool) → Named n (if t idle (if t′ slave unmatched))
-free-named n true t′ = tt
-free-named n false true = tt
-free-named n false false = tt
+-- what holds of the three states in which no part is named
+pub free-all : (P : State → Type 0) → P idle → P slave → P unmatched → (p : ℕ) → P (freeAt p)
+free-all P a b c p = go (eqb p 0) (eqb p 1)
+  where
+    go : (t t′ : Bool) → P (if t idle (if t′ slave unmatched))
+    go true t′ = a
+    go false true = b
+    go false false = c
 
 -- what a sound bus state stands for
 pub state-named : (n : ℕ) (b : Bus) → soundBus n b ≡ true → Named n (stateOf b)
 state-named n b e = go (eqb (b .part) 0) refl
   where
     go : (t : Bool) → eqb (b .part) 0 ≡ t → Named n (if t (freeAt (b .phase)) (transfer (b .part) (useAt (b .phase))))
-    go true t = free-named n (eqb (b .phase) 0) (eqb (b .phase) 1)
+    go true t = free-all (Named n) tt tt tt (b .phase)
     go false t =
         let z : b .part ≡ 0 → ⊥ = eqb-false (b .part) 0 t in
         (omega arith, leb-true (b .part) n (and-left (leb (b .part) n) (ltb (b .phase) 3) e))
 
-use-phase : (u : Use) → useAt (phaseOf u) ≡ u
-use-phase command = refl
-use-phase writing = refl
-use-phase reading = refl
-
-phase-small : (u : Use) → ltb (phaseOf u) 3 ≡ true
-phase-small command = refl
-phase-small writing = refl
-phase-small reading = refl
+use-phase : (u : Use) → (useAt (phaseOf u) ≡ u) × (ltb (phaseOf u) 3 ≡ true)
+use-phase command = (refl, refl)
+use-phase writing = (refl, refl)
+use-phase reading = (refl, refl)
 
 -- there and back
 pub state-bus : (n : ℕ) (s : State) → Named n s → stateOf (busOf s) ≡ s
 state-bus n idle h = refl
 state-bus n slave h = refl
 state-bus n unmatched h = refl
-state-bus n (transfer k u) h = rw (ne-eqb k 0 (λ e. omega arith), use-phase u)
+state-bus n (transfer k u) h = rw (ne-eqb k 0 (λ e. omega arith), use-phase u .0)
 
 pub bus-sound : (n : ℕ) (s : State) → Named n s → soundBus n (busOf s) ≡ true
 bus-sound n idle h = rw (le-leb 0 n (omega arith))
 bus-sound n slave h = rw (le-leb 0 n (omega arith))
 bus-sound n unmatched h = rw (le-leb 0 n (omega arith))
-bus-sound n (transfer k u) h = rw (le-leb k n (h .1), phase-small u)
+bus-sound n (transfer k u) h = rw (le-leb k n (h .1), use-phase u .1)
 
 opened-named : (n m v : ℕ) → m ≤ n → Named n (opened m v)
 opened-named n zero v h = tt

@@ -1,14 +1,15 @@
 -- Part i's view of the bus: the tracker follows the bus states, and the lone bus does what the whole bus does in part i's transactions.
 -- Assumes nothing.
-use Rattle.ground.proofs.Names.{ℕ, zero, suc, _≤_, arith, not-suc-le-zero, Bool, true, false, true≢false, List, _∷_, _≡_, refl, sym, ap, _∙_, eqb, leb, ltb, length, eqb-true, eq-eqb, ne-eqb, if, and-right}
+use Rattle.ground.proofs.Names.{ℕ, zero, suc, _≤_, arith, not-suc-le-zero, Bool, true, false, true≢false, List, _∷_, _≡_, refl, sym, _∙_, eqb, leb, ltb, length, eqb-true, eq-eqb, ne-eqb, if, and-right}
 use Rattle.bus.specs.declared.Bus.{Bus}
 use Rattle.bus.specs.Straps.{strapOf, matched}
 use Rattle.bus.specs.States.{State, idle, slave, unmatched, transfer, freeAt, useAt, stateOf, soundBus}
 use Rattle.bus.specs.BusCalls.{BusCall, start, put, get, stop, give, ask}
 use Rattle.bus.specs.BusServed.{opened, next}
-use Rattle.bus.specs.BusIsolation.{accepted, Turn, closed, fresh, ours, turnAt, namesPart, turnNext, namedNow, named, names, viewOf}
-use Rattle.bus.proofs.Straps.{match-own, match-alone}
-use Rattle.bus.proofs.Accepted.{Served, put-says}
+use Rattle.bus.specs.BusIsolation.{accepted, Turn, closed, fresh, ours, turnAt, namesPart, turnNext, named, names, viewOf}
+use Rattle.bus.proofs.Straps.{match-own, matches, match-alone}
+use Rattle.bus.proofs.States.{free-all}
+use Rattle.bus.proofs.Accepted.{wire-served}
 
 -- what a state is to part i, and to the lone bus
 abbrev pub turnOf : ℕ → State → Turn
@@ -25,15 +26,11 @@ view i (transfer k u) = if (eqb k i) (transfer 1 u) idle
 
 -- a bus state's turn and view are those of what it stands for
 turn-free : (i p : ℕ) → if (eqb p 1) fresh closed ≡ turnOf i (freeAt p)
-turn-free i p = go (eqb p 0) refl (eqb p 1)
+turn-free i p = go (eqb p 0) refl
   where
-    go : (t : Bool) → eqb p 0 ≡ t → (t′ : Bool) → if (eqb p 1) fresh closed ≡ turnOf i (if t idle (if (eqb p 1) slave unmatched))
-    go true e t′ = let z : p ≡ 0 = eqb-true p 0 e in rw z
-    go false e t′ = last (eqb p 1)
-      where
-        last : (t : Bool) → if t fresh closed ≡ turnOf i (if t slave unmatched)
-        last true = refl
-        last false = refl
+    go : (t : Bool) → eqb p 0 ≡ t → if (eqb p 1) fresh closed ≡ turnOf i (if t idle (if (eqb p 1) slave unmatched))
+    go true e = rw (eqb-true p 0 e)
+    go false e = elim (eqb p 1) as (λ t. if t fresh closed ≡ turnOf i (if t slave unmatched)) [ true ↦ refl | false ↦ refl ]
 
 pub turn-state : (i : ℕ) (b : Bus) → turnAt i b ≡ turnOf i (stateOf b)
 turn-state i b = go (eqb (b .part) 0)
@@ -41,11 +38,6 @@ turn-state i b = go (eqb (b .part) 0)
     go : (t : Bool) → if t (if (eqb (b .phase) 1) fresh closed) (if (eqb (b .part) i) ours closed) ≡ turnOf i (if t (freeAt (b .phase)) (transfer (b .part) (useAt (b .phase))))
     go true = turn-free i (b .phase)
     go false = refl
-
-view-free : (i : ℕ) (t t′ : Bool) → if t idle (if t′ slave unmatched) ≡ view i (if t idle (if t′ slave unmatched))
-view-free i true t′ = refl
-view-free i false true = refl
-view-free i false false = refl
 
 pub view-state : (i : ℕ) (b : Bus) → stateOf (viewOf i b) ≡ view i (stateOf b)
 view-state i b = go (eqb (b .part) 0) refl
@@ -57,7 +49,7 @@ view-state i b = go (eqb (b .part) 0) refl
     go : (t : Bool) → eqb (b .part) 0 ≡ t
         → stateOf (if t b (if (eqb (b .part) i) (record { part = 1; phase = b .phase }) (record { part = 0; phase = 0 })))
         ≡ view i (if t (freeAt (b .phase)) (transfer (b .part) (useAt (b .phase))))
-    go true e = rw e (view-free i (eqb (b .phase) 0) (eqb (b .phase) 1))
+    go true e = rw e (free-all (λ s. s ≡ view i s) refl refl refl (b .phase))
     go false e = inner (eqb (b .part) i)
 
 -- the lone bus's state is sound
@@ -84,6 +76,22 @@ ours-says n σ k i qs = go (eqb k i) refl
     go true t e = eqb-true k i t
     go false t e = absurd (true≢false (sym e))
 
+-- a call that no transaction turns on is skipped
+pub names-skip : (n i : ℕ) (σ : List ℕ) (t : Turn) (q : BusCall) (qs : List BusCall) → named n σ i (q ∷ qs) ≡ named n σ i qs
+    → names n σ i t (q ∷ qs) ≡ names n σ i t qs
+names-skip n i σ closed q qs e = refl
+names-skip n i σ fresh q qs e = e
+names-skip n i σ ours q qs e = refl
+
+-- a byte given, served, leaves whose the transaction is
+pub put-names : (n i : ℕ) (σ : List ℕ) (t : Turn) (v : ℕ) (qs : List BusCall) → accepted n σ (put v) ≡ true
+    → names n σ i t (put v ∷ qs) ≡ names n σ i (turnNext σ i (put v) t) qs
+unfolding named
+put-names n i σ closed v qs a = refl
+put-names n i σ fresh v qs a =
+    rw a (elim (namesPart σ i v) as (λ t. t ≡ names n σ i (if t ours closed) qs) [ true ↦ refl | false ↦ refl ])
+put-names n i σ ours v qs a = refl
+
 -- a slave byte, to part i and to the lone bus
 opened-turn : (i m v : ℕ) → 1 ≤ i → turnOf i (opened m v) ≡ if (eqb m i) ours closed
 opened-turn i zero v h = rw (ne-eqb 0 i (λ e. omega arith))
@@ -95,60 +103,29 @@ opened-view (suc k) v h = rw (eq-eqb (suc k) (suc k) refl)
 
 module _ (n i : ℕ) (σ rest : List ℕ) (sixteen : length σ ≡ 16) (h : 1 ≤ i) (g : i ≤ n) where
   -- a slave byte that is part i's is matched by part i, and on the lone bus
-  pub own-match : Served n σ → (v : ℕ) → namesPart σ i v ≡ true → (matched n σ v ≡ i) × (matched 1 (strapOf σ i ∷ rest) v ≡ 1)
-  own-match z v e =
-      (eqb-true _ i (match-own n σ v i (z .apart) h g (omega (arith, z .few)) ∙ e), match-alone (strapOf σ i) v rest ∙ rw e)
+  pub own-match : (v : ℕ) → accepted n σ (put v) ≡ true → namesPart σ i v ≡ true → (matched n σ v ≡ i) × (matched 1 (strapOf σ i ∷ rest) v ≡ 1)
+  own-match v a e = (matches sixteen (wire-served n σ a) v i h g (eqb-true _ _ e), match-alone (strapOf σ i) v rest ∙ rw e)
 
   -- the tracker follows the table
   pub turn-follows : (q : BusCall) (s : State) → accepted n σ q ≡ true → turnOf i (next n σ q s) ≡ turnNext σ i q (turnOf i s)
   turn-follows start s a = refl
   turn-follows (put v) idle a = refl
-  turn-follows (put v) slave a =
-      let z = put-says n σ v a in
-      opened-turn i (matched n σ v) v h
-      ∙ ap (λ (t : Bool). if t ours closed) (match-own n σ v i (z .apart) h g (omega (arith, z .few)))
+  turn-follows (put v) slave a = opened-turn i (matched n σ v) v h ∙ rw (match-own sixteen (wire-served n σ a) v i h g)
   turn-follows (put v) unmatched a = refl
-  turn-follows (put v) (transfer k u) a = go (eqb k i)
-    where
-      go : (t : Bool) → if t ours closed ≡ turnNext σ i (put v) (if t ours closed)
-      go true = refl
-      go false = refl
+  turn-follows (put v) (transfer k u) a =
+      elim (eqb k i) as (λ t. if t ours closed ≡ turnNext σ i (put v) (if t ours closed)) [ true ↦ refl | false ↦ refl ]
   turn-follows get s a = refl
   turn-follows stop s a = refl
   turn-follows (give j x) s a = refl
   turn-follows (ask j x) s a = refl
 
-  -- a refused call, and an accepted one that no transaction turns on, are skipped
-  pub names-skip : (t : Turn) (q : BusCall) (qs : List BusCall) → accepted n σ q ≡ false → names n σ i t qs ≡ names n σ i t (q ∷ qs)
-  unfolding named
-  names-skip closed q qs a = refl
-  names-skip fresh q qs a = rw a
-  names-skip ours q qs a = refl
-
-  pub names-through : (t : Turn) (q : BusCall) (qs : List BusCall) → accepted n σ q ≡ true → ((later : Bool) → later ≡ namedNow σ i q later)
-      → names n σ i t qs ≡ names n σ i t (q ∷ qs)
-  unfolding named
-  names-through closed q qs a f = refl
-  names-through fresh q qs a f = rw a (f (named n σ i qs))
-  names-through ours q qs a f = refl
-
-  -- a byte given, served: whose the transaction is stays, and the lone bus goes on as the whole bus
-  pub put-names : (t : Turn) (v : ℕ) (qs : List BusCall) → accepted n σ (put v) ≡ true → names n σ i (turnNext σ i (put v) t) qs ≡ names n σ i t (put v ∷ qs)
-  unfolding named
-  put-names closed v qs a = refl
-  put-names fresh v qs a = rw a (go (namesPart σ i v))
-    where
-      go : (t : Bool) → names n σ i (if t ours closed) qs ≡ t
-      go true = refl
-      go false = refl
-  put-names ours v qs a = refl
-
+  -- a byte given, served: the lone bus goes on as the whole bus
   pub put-view : (v : ℕ) (s : State) (qs : List BusCall) → accepted n σ (put v) ≡ true → names n σ i (turnOf i s) (put v ∷ qs) ≡ true
       → next 1 (strapOf σ i ∷ rest) (put v) (view i s) ≡ view i (next n σ (put v) s)
   unfolding named
   put-view v idle qs a e = absurd (true≢false (sym e))
   put-view v slave qs a e =
-      let m = own-match (put-says n σ v a) v (rw a at e) in
+      let m = own-match v a (rw a at e) in
       rw (m .0, m .1) (opened-view i v h)
   put-view v unmatched qs a e = absurd (true≢false (sym e))
-  put-view v (transfer k u) qs a e = let p : k ≡ i = ours-says n σ k i (put v ∷ qs) e in rw (p, eq-eqb i i refl)
+  put-view v (transfer k u) qs a e = rw (ours-says n σ k i (put v ∷ qs) e, eq-eqb i i refl)

@@ -1,46 +1,31 @@
 -- Whole transactions: the proof of `specs/Transactions.antt`'s theorem.
 -- Assumes nothing.
-use Rattle.ground.proofs.Names.{ℕ, zero, suc, _+_, _*_, _-_, _/_, _%_, _≤_, _<_, min, arith, mod-lt, Bool, true, false, List, [], _∷_, _++_, map, _≡_, refl, ap, _∙_, ltb, length, replicate, length-set, getD-set-same, set-set, set-getD, eqb-true, eq-eqb, ne-eqb, lt-ltb, ltb-true, ltb-false, if, odd}
+use Rattle.ground.proofs.Names.{ℕ, zero, suc, _+_, _*_, _-_, _/_, _%_, _≤_, min, arith, add-zero, mod-lt, Bool, true, false, List, [], _∷_, _++_, map, _≡_, refl, _∙_, ltb, length, replicate, length-set, getD-set-same, set-set, set-getD, eqb-true, eq-eqb, ne-eqb, lt-ltb, ltb-true, ltb-false, if, odd}
 use Rattle.words.specs.Addresses.{writtenAt, readAt}
-use Rattle.registers.specs.Registers.{written, dataOf, afterRead}
+use Rattle.registers.specs.Registers.{written, afterRead}
 use Rattle.device.specs.PowerUp.{powerUp}
 use Rattle.device.specs.Record.{withRegisters, withCommand}
 use Rattle.device.specs.Sound.{soundOf}
 use Rattle.device.specs.declared.Device.{Device}
-use Rattle.device.proofs.Sound.{command-sound}
+use Rattle.device.proofs.Sound.{command-sound, soundness as device-sound}
 use Rattle.calls.specs.CallRefusals.{allSound}
 use Rattle.calls.specs.Served.{recordOf, withRecord}
-use Rattle.calls.proofs.Records.{sound-at}
+use Rattle.calls.proofs.Records.{sound-at, sound-set}
 use Rattle.bus.specs.declared.Bus.{Bus}
-use Rattle.bus.specs.Straps.{strapOf, matched}
-use Rattle.bus.specs.States.{command, writing, reading, State, idle, slave, transfer, stateOf, busOf, soundBus}
+use Rattle.bus.specs.Straps.{strapOf}
+use Rattle.bus.specs.States.{Use, command, writing, reading, State, idle, slave, transfer, stateOf, busOf, soundBus}
 use Rattle.device.specs.TwoWire.{nextAddress, commanded, received, sentData, sent}
 use Rattle.bus.specs.BusCalls.{BusCall, start, put, get, stop}
 use Rattle.bus.specs.BusRefusals.{wireRefusal}
-use Rattle.bus.specs.BusOutcome.{number}
 use Rattle.bus.specs.BusServed.{next, served, givenBack}
-use Rattle.bus.specs.BusOutcome.{busAfter, partsAfter, reply}
+use Rattle.bus.specs.BusOutcome.{busAfter, partsAfter}
 use Rattle.bus.specs.BusLists.{busAll, partsAll, numbers, replies}
-use Rattle.bus.specs.BusIsolation.{accepted}
+use Rattle.bus.specs.BusIsolation.{refusalAlone, accepted}
 use Rattle.bus.specs.Transactions.{stored, readLeft, readData, Ran, Transaction, Transactions}
-use Rattle.bus.proofs.Straps.{match-own}
-use Rattle.bus.proofs.States.{Named, state-bus, bus-sound}
-use Rattle.bus.proofs.Accepted.{Served, number-alone, bus-by, parts-by, reply-by}
+use Rattle.bus.proofs.Straps.{Served, matches}
+use Rattle.bus.proofs.States.{state-bus, bus-sound}
+use Rattle.bus.proofs.Accepted.{Sound, number-alone, bus-by, parts-by, reply-by}
 use Rattle.bus.proofs.Bytes.{slave-taken}
-use Rattle.bus.proofs.Sound.{put-sound, get-sound}
-
--- one call more
-run-more : (σ : List ℕ) (q : BusCall) (qs : List BusCall) (b b₁ b′ : Bus) (ds ds₁ ds′ : List Device) (r : List ℕ) (rs : List (List ℕ))
-    → number σ q b ds ≡ 0 → busAfter σ q b ds ≡ b₁ → partsAfter σ q b ds ≡ ds₁ → reply σ q b ds ≡ r
-    → Ran σ qs b₁ ds₁ b′ ds′ rs → Ran σ (q ∷ qs) b ds b′ ds′ (r ∷ rs)
-unfolding busAll partsAll numbers replies
-run-more σ q qs b b₁ b′ ds ds₁ ds′ r rs z e f w ran =
-    record {
-      all-served = rw (z, e, f, ran .all-served);
-      bus-left = rw (e, f) (ran .bus-left);
-      parts-left = rw (e, f) (ran .parts-left);
-      given-back = rw (w, e, f, ran .given-back);
-    }
 
 -- no call more
 run-none : (σ : List ℕ) (b : Bus) (ds : List Device) → Ran σ [] b ds b ds []
@@ -55,148 +40,108 @@ next-min a = go (ltb (min a 127) 127) refl
     go true t = omega (arith, ltb-true (min a 127) 127 t)
     go false t = omega (arith, ltb-false (min a 127) 127 t)
 
--- a part that is given data bytes, and asked for some
-receivedAll : Device → List ℕ → Device
-receivedAll d [] = d
-receivedAll d (v ∷ vs) = receivedAll (received d v) vs
-
-sentAll : Device → ℕ → Device
-sentAll d zero = d
-sentAll d (suc m) = sentAll (sent d) m
-
-sentList : Device → ℕ → List ℕ
-sentList d zero = []
-sentList d (suc m) = sentData d ∷ sentList (sent d) m
-
--- byte j goes to min (a + j) 127
-received-all : (vs : List ℕ) (d : Device) (a : ℕ)
-    → receivedAll (withCommand d (min a 127)) vs ≡ withCommand (withRegisters d (stored (d .registers) a vs)) (min (a + length vs) 127)
-unfolding receivedAll received
-received-all [] d a = let e : a + 0 ≡ a = omega arith in rw e
-received-all (v ∷ vs) d a =
-    let e : a + suc (length vs) ≡ a + 1 + length vs = omega arith in
-    rw (next-min a, e) (received-all vs (withRegisters d (written (d .registers) (writtenAt (min a 127)) v)) (a + 1))
-
-sent-all : (m : ℕ) (d : Device) (a : ℕ)
-    → sentAll (withCommand d (min a 127)) m ≡ withCommand (withRegisters d (readLeft (d .registers) a m)) (min (a + m) 127)
-unfolding sentAll sent
-sent-all zero d a = let e : a + 0 ≡ a = omega arith in rw e
-sent-all (suc m) d a =
-    let e : a + suc m ≡ a + 1 + m = omega arith in
-    rw (next-min a, e) (sent-all m (withRegisters d (afterRead (d .registers) (readAt (min a 127)))) (a + 1))
-
-sent-list : (m : ℕ) (d : Device) (a : ℕ) → sentList (withCommand d (min a 127)) m ≡ readData (d .registers) a m
-unfolding sentList sentData sent
-sent-list zero d a = refl
-sent-list (suc m) d a = rw (next-min a) (ap (λ (xs : List ℕ). dataOf (d .registers) (readAt (min a 127)) ∷ xs) (sent-list m (withRegisters d (afterRead (d .registers) (readAt (min a 127)))) (a + 1)))
-
--- an address is at most 127
-commanded-min : (d : Device) (a : ℕ) → commanded d a ≡ withCommand d (min (a % 128) 127)
-unfolding commanded
-commanded-min d a = let e : min (a % 128) 127 ≡ a % 128 = omega (arith, mod-lt a {m = 128} (omega arith)) in rw e
-
-command-min : (d : Device) → soundOf d ≡ true → d ≡ withCommand d (min (d .command) 127)
-command-min d s =
-    let c : d .command < 128 = ltb-true (d .command) 128 (command-sound d s) in
-    let e : min (d .command) 127 ≡ d .command = omega arith in
-    rw e
-
--- straps that are as they should be
-wire-zero : (n : ℕ) (σ : List ℕ) → 1 ≤ n → Served n σ → wireRefusal n true σ ≡ 0
-wire-zero n σ h w = rw (lt-ltb 0 n h, lt-ltb n 17 (omega (arith, w .few)), w .apart, w .seven)
-
 module _ (n k : ℕ) (σ : List ℕ) (sixteen : length σ ≡ 16) (h : 1 ≤ k) (g : k ≤ n) (w : Served n σ) where
-  -- a start, a byte, a stop, at a state
-  run-step : (q : BusCall) → accepted n σ q ≡ true → (qs : List BusCall) (b : Bus) (s : State) (ds : List Device) (b′ : Bus) (ds′ : List Device) (rs : List (List ℕ))
-      → stateOf b ≡ s → soundBus n b ≡ true → length ds ≡ n → allSound ds ≡ true
-      → Ran σ qs (busOf (next n σ q s)) (served q s ds) b′ ds′ rs → Ran σ (q ∷ qs) b ds b′ ds′ (givenBack n σ q s ds ∷ rs)
-  run-step q a qs b s ds b′ ds′ rs e f l z ran =
-      run-more σ q qs b (busOf (next n σ q s)) b′ ds (served q s ds) ds′ (givenBack n σ q s ds) rs
-      (number-alone n σ q b ds l z f ∙ eqb-true _ 0 a)
-      (bus-by n σ q b ds l z f ∙ rw (a, e))
-      (parts-by n σ q b ds l z f ∙ rw (a, e))
-      (reply-by n σ q b ds l z f ∙ rw (a, e))
-      ran
+  -- one call more, at a state
+  run-step : (q : BusCall) → accepted n σ q ≡ true → {b : Bus} {ds : List Device} → Sound n b ds → (s : State) → stateOf b ≡ s
+      → {qs : List BusCall} {b′ : Bus} {ds₁ ds′ : List Device} {rs : List (List ℕ)} {r : List ℕ} → Ran σ qs (busOf (next n σ q s)) ds₁ b′ ds′ rs
+      → served q s ds ≡ ds₁ → givenBack n σ q s ds ≡ r → Ran σ (q ∷ qs) b ds b′ ds′ (r ∷ rs)
+  unfolding busAll partsAll numbers replies
+  run-step q a {b} {ds} v s e {ds₁ = ds₁} ran f g =
+      let bus : busAfter σ q b ds ≡ busOf (next n σ q s) = bus-by σ q v ∙ rw (a, e) in
+      let parts : partsAfter σ q b ds ≡ ds₁ = parts-by σ q v ∙ rw (a, e) f in
+      record {
+        all-served = rw (number-alone σ q v, eqb-true (refusalAlone n σ q) 0 a, bus, parts, ran .all-served);
+        bus-left = rw (bus, parts) (ran .bus-left);
+        parts-left = rw (bus, parts) (ran .parts-left);
+        given-back = rw (reply-by σ q v, a, e, g, bus, parts, ran .given-back);
+      }
 
   wire : wireRefusal n true σ ≡ 0
-  wire = wire-zero n σ (omega arith) w
+  wire = rw (lt-ltb 0 n (omega arith), lt-ltb n 17 (omega (arith, w .few)), w .apart, w .seven)
 
-  -- a stop ends it
-  stopped : (s : State) (ds : List Device) → Named n s → length ds ≡ n → allSound ds ≡ true
-      → Ran σ (stop ∷ []) (busOf s) ds (busOf idle) ds ([] ∷ [])
-  stopped s ds m l z =
-      run-step stop (rw wire) [] (busOf s) s ds (busOf idle) ds [] (state-bus n s m) (bus-sound n s m) l z (run-none σ (busOf idle) ds)
+  module _ (ds : List Device) (l : length ds ≡ n) (z : allSound ds ≡ true) where
+    -- a call in part k's transfer, where its record is y
+    use-run : (q : BusCall) → accepted n σ q ≡ true → (u : Use) (y : Device) → soundOf y ≡ true
+        → {qs : List BusCall} {b′ : Bus} {ds₁ ds′ : List Device} {rs : List (List ℕ)} {r : List ℕ} → Ran σ qs (busOf (next n σ q (transfer k u))) ds₁ b′ ds′ rs
+        → served q (transfer k u) (withRecord ds k y) ≡ ds₁ → givenBack n σ q (transfer k u) (withRecord ds k y) ≡ r
+        → Ran σ (q ∷ qs) (busOf (transfer k u)) (withRecord ds k y) b′ ds′ (r ∷ rs)
+    use-run q a u y s =
+        run-step q a
+        (record { count = length-set ds (k - 1) y ∙ l; records = sound-set ds (k - 1) y z s; bus = bus-sound n (transfer k u) (h, g) })
+        (transfer k u) (state-bus n (transfer k u) (h, g))
 
-  -- data bytes, and the stop
-  write-run : (vs : List ℕ) (ds : List Device) → length ds ≡ n → allSound ds ≡ true
-      → Ran σ (map put vs ++ stop ∷ []) (busOf (transfer k writing)) ds (busOf idle) (withRecord ds k (receivedAll (recordOf ds k) vs)) (map (λ (v : ℕ). 1 ∷ 0 ∷ []) vs ++ [] ∷ [])
-  unfolding receivedAll
-  write-run [] ds l z = rw (set-getD ds (k - 1) powerUp) (stopped (transfer k writing) ds (h, g) l z)
-  write-run (v ∷ vs) ds l z =
-      let s = transfer k writing in
-      let d = received (recordOf ds k) v in
-      let es = withRecord ds k d in
-      let l′ : length es ≡ n = length-set ds (k - 1) d ∙ l in
-      let own : recordOf es k ≡ d = getD-set-same ds (k - 1) d powerUp (omega arith) in
-      let more = rw (own, set-set ds (k - 1) d (receivedAll d vs)) at (write-run vs es l′ (put-sound v s ds z)) in
-      run-step (put v) (rw wire) (map put vs ++ stop ∷ []) (busOf s) s ds (busOf idle) _ _ (state-bus n s (h, g)) (bus-sound n s (h, g)) l z more
+    stopped : (u : Use) (y : Device) → soundOf y ≡ true → Ran σ (stop ∷ []) (busOf (transfer k u)) (withRecord ds k y) (busOf idle) (withRecord ds k y) ([] ∷ [])
+    stopped u y s = use-run stop (rw wire) u y s (run-none σ (busOf idle) (withRecord ds k y)) refl refl
 
-  read-run : (m : ℕ) (ds : List Device) → length ds ≡ n → allSound ds ≡ true
-      → Ran σ (replicate m get ++ stop ∷ []) (busOf (transfer k reading)) ds (busOf idle) (withRecord ds k (sentAll (recordOf ds k) m)) (map (λ (v : ℕ). 1 ∷ v ∷ []) (sentList (recordOf ds k) m) ++ [] ∷ [])
-  unfolding sentAll sentList
-  read-run zero ds l z = rw (set-getD ds (k - 1) powerUp) (stopped (transfer k reading) ds (h, g) l z)
-  read-run (suc m) ds l z =
-      let s = transfer k reading in
-      let d = sent (recordOf ds k) in
-      let es = withRecord ds k d in
-      let l′ : length es ≡ n = length-set ds (k - 1) d ∙ l in
-      let own : recordOf es k ≡ d = getD-set-same ds (k - 1) d powerUp (omega arith) in
-      let more = rw (own, set-set ds (k - 1) d (sentAll d m)) at (read-run m es l′ (get-sound s ds z)) in
-      run-step get (rw wire) (replicate m get ++ stop ∷ []) (busOf s) s ds (busOf idle) _ _ (state-bus n s (h, g)) (bus-sound n s (h, g)) l z more
+    own : (y : Device) → recordOf (withRecord ds k y) k ≡ y
+    own y = getD-set-same ds (k - 1) y powerUp (omega arith)
 
-  -- a start, and part k's slave byte
-  open-run : (v : ℕ) → strapOf σ k ≡ v / 2 → (qs : List BusCall) (b : Bus) (ds : List Device) (b′ : Bus) (ds′ : List Device) (rs : List (List ℕ))
-      → soundBus n b ≡ true → length ds ≡ n → allSound ds ≡ true
-      → Ran σ qs (busOf (transfer k (if (odd v) reading command))) ds b′ ds′ rs
-      → Ran σ (start ∷ put v ∷ qs) b ds b′ ds′ ([] ∷ (1 ∷ 0 ∷ []) ∷ rs)
-  open-run v e qs b ds b′ ds′ rs f l z ran =
-      let m : matched n σ v ≡ k = eqb-true _ k (match-own n σ v k (w .apart) h g (omega (arith, w .few)) ∙ eq-eqb _ _ e) in
-      let o = slave-taken k v h in
-      run-step start (rw wire) (put v ∷ qs) b (stateOf b) ds b′ ds′ _ refl f l z
-      (rw (m, o .1) at
-      (run-step (put v) (rw wire) qs (busOf slave) slave ds b′ ds′ rs refl (bus-sound n slave tt) l z (rw (m, o .0) ran)))
+    -- data bytes from address a on, and the stop
+    write-run : (vs : List ℕ) (x : Device) (a : ℕ) → soundOf (withCommand x (min a 127)) ≡ true
+        → Ran σ (map put vs ++ stop ∷ []) (busOf (transfer k writing)) (withRecord ds k (withCommand x (min a 127))) (busOf idle)
+        (withRecord ds k (withCommand (withRegisters x (stored (x .registers) a vs)) (min (a + length vs) 127)))
+        (map (λ (v : ℕ). 1 ∷ 0 ∷ []) vs ++ [] ∷ [])
+    unfolding received
+    write-run [] x a s = rw add-zero (stopped writing (withCommand x (min a 127)) s)
+    write-run (v ∷ vs) x a s =
+        let e : a + suc (length vs) ≡ a + 1 + length vs = omega arith in
+        let y = withCommand x (min a 127) in
+        let x′ = withRegisters x (written (x .registers) (writtenAt (min a 127)) v) in
+        let more = write-run vs x′ (a + 1) (rw (next-min a) at (device-sound .after-received y v s)) in
+        rw e (use-run (put v) (rw wire) writing y s more (rw (own y, set-set ds (k - 1) y (received y v), next-min a)) refl)
 
-  -- a command byte, and a write
-  command-run : (a : ℕ) (vs : List ℕ) (ds : List Device) → length ds ≡ n → allSound ds ≡ true
-      → Ran σ (put a ∷ map put vs ++ stop ∷ []) (busOf (transfer k command)) ds (busOf idle) (withRecord ds k (receivedAll (commanded (recordOf ds k) a) vs))
-      ((1 ∷ 0 ∷ []) ∷ map (λ (v : ℕ). 1 ∷ 0 ∷ []) vs ++ [] ∷ [])
-  command-run a vs ds l z =
-      let s = transfer k command in
-      let d = commanded (recordOf ds k) a in
-      let es = withRecord ds k d in
-      let l′ : length es ≡ n = length-set ds (k - 1) d ∙ l in
-      let own : recordOf es k ≡ d = getD-set-same ds (k - 1) d powerUp (omega arith) in
-      let more = rw (own, set-set ds (k - 1) d (receivedAll d vs)) at (write-run vs es l′ (put-sound a s ds z)) in
-      run-step (put a) (rw wire) (map put vs ++ stop ∷ []) (busOf s) s ds (busOf idle) _ _ (state-bus n s (h, g)) (bus-sound n s (h, g)) l z more
+    -- bytes asked for, and the stop
+    read-run : (m : ℕ) (x : Device) (a : ℕ) → soundOf (withCommand x (min a 127)) ≡ true
+        → Ran σ (replicate m get ++ stop ∷ []) (busOf (transfer k reading)) (withRecord ds k (withCommand x (min a 127))) (busOf idle)
+        (withRecord ds k (withCommand (withRegisters x (readLeft (x .registers) a m)) (min (a + m) 127)))
+        (map (λ (v : ℕ). 1 ∷ v ∷ []) (readData (x .registers) a m) ++ [] ∷ [])
+    unfolding sent sentData
+    read-run zero x a s = rw add-zero (stopped reading (withCommand x (min a 127)) s)
+    read-run (suc m) x a s =
+        let e : a + suc m ≡ a + 1 + m = omega arith in
+        let y = withCommand x (min a 127) in
+        let x′ = withRegisters x (afterRead (x .registers) (readAt (min a 127))) in
+        let more = read-run m x′ (a + 1) (rw (next-min a) at (device-sound .after-sent y s)) in
+        rw e (use-run get (rw wire) reading y s more (rw (own y, set-set ds (k - 1) y (sent y), next-min a)) (rw (own y)))
 
-  transactions : (b : Bus) (ds : List Device) → soundBus n b ≡ true → length ds ≡ n → allSound ds ≡ true → Transaction σ b ds k
-  transactions b ds f l z =
-      let d = recordOf ds k in
-      record {
-        write = λ a vs.
-            let even : odd (2 * strapOf σ k) ≡ false = ne-eqb (2 * strapOf σ k % 2) 1 (λ e. omega arith) in
-            let left = ap (λ (x : Device). receivedAll x vs) (commanded-min d a) ∙ received-all vs d (a % 128) in
-            open-run (2 * strapOf σ k) (omega arith) (put a ∷ map put vs ++ stop ∷ []) b ds _ _ _ f l z
-            (rw even (rw left at (command-run a vs ds l z)));
-        read = λ m.
-            let high : odd (2 * strapOf σ k + 1) ≡ true = eq-eqb ((2 * strapOf σ k + 1) % 2) 1 (omega arith) in
-            let at127 : d ≡ withCommand d (min (d .command) 127) = command-min d (sound-at ds z (k - 1)) in
-            let left = ap (λ (x : Device). sentAll x m) at127 ∙ sent-all m d (d .command) in
-            let bytes = ap (λ (x : Device). sentList x m) at127 ∙ sent-list m d (d .command) in
-            open-run (2 * strapOf σ k + 1) (omega arith) (replicate m get ++ stop ∷ []) b ds _ _ _ f l z
-            (rw high (rw (left, bytes) at (read-run m ds l z)));
-      }
+    -- a command byte, and a write
+    command-run : (a : ℕ) (vs : List ℕ)
+        → Ran σ (put a ∷ map put vs ++ stop ∷ []) (busOf (transfer k command)) ds (busOf idle)
+        (withRecord ds k (withCommand (withRegisters (recordOf ds k) (stored (recordOf ds k .registers) (a % 128) vs)) (min (a % 128 + length vs) 127)))
+        ((1 ∷ 0 ∷ []) ∷ map (λ (v : ℕ). 1 ∷ 0 ∷ []) vs ++ [] ∷ [])
+    unfolding commanded
+    command-run a vs =
+        let d = recordOf ds k in
+        let e : min (a % 128) 127 ≡ a % 128 = omega (arith, mod-lt a {m = 128} (omega arith)) in
+        run-step (put a) (rw wire) (record { count = l; records = z; bus = bus-sound n (transfer k command) (h, g) })
+        (transfer k command) (state-bus n (transfer k command) (h, g))
+        (write-run vs d (a % 128) (rw e (device-sound .after-commanded d a (sound-at ds z (k - 1))))) (rw e) refl
+
+    -- a start, and part k's slave byte
+    open-run : (v : ℕ) → strapOf σ k ≡ v / 2 → (qs : List BusCall) (b : Bus) {b′ : Bus} {ds′ : List Device} {rs : List (List ℕ)} → soundBus n b ≡ true
+        → Ran σ qs (busOf (transfer k (if (odd v) reading command))) ds b′ ds′ rs
+        → Ran σ (start ∷ put v ∷ qs) b ds b′ ds′ ([] ∷ (1 ∷ 0 ∷ []) ∷ rs)
+    open-run v e qs b f ran =
+        let m = matches sixteen w v k h g e in
+        let o = slave-taken k v h in
+        run-step start (rw wire) (record { count = l; records = z; bus = f }) (stateOf b) refl
+        (run-step (put v) (rw wire) (record { count = l; records = z; bus = bus-sound n slave tt }) slave refl (rw (m, o .0) ran) refl (rw m (o .1))) refl refl
+
+    transactions : (b : Bus) → soundBus n b ≡ true → Transaction σ b ds k
+    transactions b f =
+        let d = recordOf ds k in
+        record {
+          write = λ a vs.
+              let even : odd (2 * strapOf σ k) ≡ false = ne-eqb (2 * strapOf σ k % 2) 1 (λ e. omega arith) in
+              open-run (2 * strapOf σ k) (omega arith) (put a ∷ map put vs ++ stop ∷ []) b f (rw even (command-run a vs));
+          read = λ m.
+              let high : odd (2 * strapOf σ k + 1) ≡ true = eq-eqb ((2 * strapOf σ k + 1) % 2) 1 (omega arith) in
+              let s = sound-at ds z (k - 1) in
+              let e : min (d .command) 127 ≡ d .command = omega (arith, ltb-true (d .command) 128 (command-sound d s)) in
+              open-run (2 * strapOf σ k + 1) (omega arith) (replicate m get ++ stop ∷ []) b f
+              (rw high (rw (e, set-getD ds (k - 1) powerUp) at (read-run m d (d .command) (rw e s))));
+        }
 
 pub all-transactions : Transactions
 all-transactions σ b ds sixteen few apart seven z f k h g =
-    transactions (length ds) k σ sixteen h g (record { few = few; apart = apart; seven = seven }) b ds f refl z
+    transactions (length ds) k σ sixteen h g (record { few = few; apart = apart; seven = seven }) ds refl z b f

@@ -37,19 +37,21 @@ config-word w e =
     rw (a, b)
 
 -- four tests passed
+pub all-four : (a b c d : Bool) → (a && b && c && d) ≡ true → (a ≡ true) × (b ≡ true) × (c ≡ true) × (d ≡ true)
+all-four a b c d h =
+    let three = and-left (a && b && c) d h in
+    let two = and-left (a && b) c three in
+    (and-left a b two, and-right a b two, and-right (a && b) c three, and-right (a && b && c) d h)
+
 same-config : (x y : Config) → sameConfig x y ≡ true → x ≡ y
 same-config x y h =
-    let i = eqb (x .i) (y .i) in
-    let e = eqb (x .e) (y .e) in
-    let b = eqb (x .b) (y .b) in
-    let s = eqb (x .s) (y .s) in
-    let three = and-left (i && e && b) s h in
-    let two = and-left (i && e) b three in
-    let pi = eqb-true (x .i) (y .i) (and-left i e two) in
-    let pe = eqb-true (x .e) (y .e) (and-right i e two) in
-    let pb = eqb-true (x .b) (y .b) (and-right (i && e) b three) in
-    let ps = eqb-true (x .s) (y .s) (and-right (i && e && b) s h) in
-    λ k. record { i = pi k; e = pe k; b = pb k; s = ps k }
+    let t = all-four (eqb (x .i) (y .i)) (eqb (x .e) (y .e)) (eqb (x .b) (y .b)) (eqb (x .s) (y .s)) h in
+    λ k. record {
+      i = eqb-true (x .i) (y .i) (t .0) k;
+      e = eqb-true (x .e) (y .e) (t .1) k;
+      b = eqb-true (x .b) (y .b) (t .2) k;
+      s = eqb-true (x .s) (y .s) (t .3) k;
+    }
 
 -- T is 0, and I, E, B and S stay
 blink-kept : (c : Config) (v : ℕ) → keeps c v ≡ true → bit 4 v ≡ false
@@ -61,7 +63,7 @@ config-kept : (c : Config) (v : ℕ) → keeps c v ≡ true → configOf v ≡ c
 config-kept c v h = same-config (configOf v) c (and-left (sameConfig (configOf v) c) (zeroTPX v) h)
 
 -- a choice of acts is a choice of planes
-pub clear-or : (p : Planes) (b : Bool) → if b cleared p ≡ acted p (if b clear stay)
+clear-or : (p : Planes) (b : Bool) → if b cleared p ≡ acted p (if b clear stay)
 clear-or p true = refl
 clear-or p false = refl
 

@@ -12,7 +12,7 @@ use Rattle.plans.proofs.Potential.{drawn-sized}
 use Rattle.plans.proofs.Lists.{wanted-at}
 
 -- a test that holds below n holds at each number below n, and conversely
-pub below-at : (n : ℕ) (f : ℕ → Bool) → below n f ≡ true → (k : ℕ) → k < n → f k ≡ true
+below-at : (n : ℕ) (f : ℕ → Bool) → below n f ≡ true → (k : ℕ) → k < n → f k ≡ true
 unfolding below
 below-at zero f t k h = absurd (omega arith)
 below-at (suc n) f t k h = go (below-at n f (and-left (below n f) (f n) t) k) (ℕ-discrete k n)
@@ -47,38 +47,25 @@ unfolding same
 same-refl q = below-all 16 _ (λ k h. rw (eq-eqb (getD (q .p0) k 0) (getD (q .p0) k 0) refl, eq-eqb (getD (q .p1) k 0) (getD (q .p1) k 0) refl))
 
 -- one driver
-module _ (d : Device) (q : Planes) (z : Sized (d .registers .planes)) (zq : Sized q) (ws : List ℕ) where
-  words-say : acceptedWords d q ws ≡ true → Accepted d q ws
-  unfolding acceptedWords
-  words-say t =
-      let a = and-left (every (allowed d) ws) _ t in
-      let p = afterWords d ws .registers .planes in
-      let zp : Sized p = rw (after-planes ws d a) (drawn-sized ws (d .registers .planes) z) in
-      record { alone = a; ends = same-says p q zp zq (and-right (every (allowed d) ws) _ t) }
+words-say : (d : Device) (q : Planes) → Sized (d .registers .planes) → Sized q → (ws : List ℕ) → acceptedWords d q ws ≡ true → Accepted d q ws
+unfolding acceptedWords
+words-say d q z zq ws t =
+    let a = and-left (every (allowed d) ws) _ t in
+    let p = afterWords d ws .registers .planes in
+    let zp : Sized p = rw (after-planes ws d a) (drawn-sized ws (d .registers .planes) z) in
+    record { alone = a; ends = same-says p q zp zq (and-right (every (allowed d) ws) _ t) }
 
-  words-test : Accepted d q ws → acceptedWords d q ws ≡ true
-  unfolding acceptedWords
-  words-test h = rw (h .alone, h .ends) (same-refl q)
+words-test : (d : Device) (q : Planes) (ws : List ℕ) → Accepted d q ws → acceptedWords d q ws ≡ true
+unfolding acceptedWords
+words-test d q ws h = rw (h .alone, h .ends) (same-refl q)
 
 -- a chain: whole accesses, and each driver's words
-module _ (ds : List Device) (wanted list : List ℕ) where
-  own : ℕ → Bool
-  own i = acceptedWords (recordAt ds i) (wantedAt wanted i) (wordsAt (length ds) list i)
-
-  whole-said : acceptedList ds wanted list ≡ true → length list % length ds ≡ 0
-  unfolding acceptedList
-  whole-said t = eqb-true (length list % length ds) 0 (and-left _ _ t)
-
-  each-said : acceptedList ds wanted list ≡ true → (i : ℕ) → i < length ds → own i ≡ true
-  unfolding acceptedList own
-  each-said t = below-at (length ds) own (and-right (eqb (length list % length ds) 0) _ t)
-
-  both-test : length list % length ds ≡ 0 → ((i : ℕ) → i < length ds → own i ≡ true) → acceptedList ds wanted list ≡ true
-  unfolding acceptedList own
-  both-test e h = rw e (below-all (length ds) own h)
+whole-said : (ds : List Device) (wanted list : List ℕ) → acceptedList ds wanted list ≡ true → length list % length ds ≡ 0
+unfolding acceptedList
+whole-said ds wanted list t = eqb-true (length list % length ds) 0 (and-left _ _ t)
 
 pub checked : Checked
-unfolding own
+unfolding acceptedList
 checked ds wanted list g = (says, test)
   where
     says : acceptedList ds wanted list ≡ true → AcceptedList ds wanted list
@@ -88,10 +75,8 @@ checked ds wanted list g = (says, test)
           each =
               λ i h.
               words-say (recordAt ds i) (wantedAt wanted i) (g .planes i h) (wanted-at ds wanted g i h .sized) (wordsAt (length ds) list i)
-              (each-said ds wanted list t i h);
+              (below-at (length ds) _ (and-right (eqb (length list % length ds) 0) _ t) i h);
         }
 
     test : AcceptedList ds wanted list → acceptedList ds wanted list ≡ true
-    test a =
-        both-test ds wanted list (a .whole)
-        (λ i h. words-test (recordAt ds i) (wantedAt wanted i) (g .planes i h) (wanted-at ds wanted g i h .sized) (wordsAt (length ds) list i) (a .each i h))
+    test a = rw (a .whole) (below-all (length ds) _ (λ i h. words-test (recordAt ds i) (wantedAt wanted i) (wordsAt (length ds) list i) (a .each i h)))

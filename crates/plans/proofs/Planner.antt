@@ -1,6 +1,6 @@
 -- The planner's own words for one driver are accepted, and as many as the least number.
 -- Assumes nothing.
-use Rattle.ground.proofs.Names.{ℕ, zero, suc, _+_, _*_, _/_, _%_, _^_, _<_, _≤_, arith, Bool, true, false, _&&_, List, [], _∷_, _++_, append-assoc, append-nil, _≡_, refl, ap, _∙_, eqb, ltb, length, getD, set, take, drop, length-append, drop-of-length-le, take-suc, drop-cons, set-at, length-take-le, take-all, eqb-true, ne-eqb, ltb-true, ltb-false, if, and-left, and-right, all, all-at}
+use Rattle.ground.proofs.Names.{ℕ, zero, suc, _+_, _*_, _/_, _%_, _^_, _<_, _≤_, arith, Bool, true, false, or-true, List, [], _∷_, _++_, append-assoc, append-nil, _≡_, refl, ap, _∙_, eqb, ltb, length, getD, set, take, drop, length-append, drop-of-length-le, take-suc, drop-cons, set-at, length-take-le, take-all, eqb-true, ltb-true, ltb-false, if, and-left, and-right, all, all-at}
 use Rattle.words.specs.declared.Plane.the-variants.{P0, P1}
 use Rattle.digits.specs.Digits.{cleared}
 use Rattle.digits.specs.declared.Planes.{Planes}
@@ -13,54 +13,42 @@ use Rattle.device.proofs.Sound.{registers-sound}
 use Rattle.plans.specs.Words.{allowedBy, allowed, every, Accepted, Sized, Wanted}
 use Rattle.plans.specs.Least.{needBy, needAt, total, plain, anew, least}
 use Rattle.plans.specs.Plan.{put0, put1, putBoth, clearWord, wordsBy, digitWordsAt, steps, clears, planBy, planOf}
-use Rattle.plans.specs.Act.{Act, one, both, clear, acted, actOf, drawn}
+use Rattle.plans.specs.Act.{one, both, clear, acted, actOf, drawn}
 use Rattle.plans.specs.Shortest.{OneDriver}
-use Rattle.plans.proofs.Act.{after-planes}
+use Rattle.plans.proofs.Act.{all-four, after-planes}
 use Rattle.plans.proofs.Potential.{none-shorter, least-le}
 
--- the parts of a digit write
-module _ (r k v : ℕ) (hk : k < 16) (hv : v < 256) where
-  digit-parts : ((r * 4096 + k * 256 + v) / 4096 ≡ r) × ((r * 4096 + k * 256 + v) / 256 % 16 ≡ k) × ((r * 4096 + k * 256 + v) % 256 ≡ v)
-  digit-parts = omega arith
-
--- what the planner's words do, and that they are allowed
+-- a digit write by its register, digit and byte
 module _ (k v : ℕ) (hk : k < 16) (hv : v < 256) where
-  act-put0 : actOf (put0 k v) ≡ one P0 k v
-  act-put0 = let e = digit-parts 2 k v hk hv in rw (e .0, e .1, e .2)
+  digit-parts : (r : ℕ) → ((r * 4096 + k * 256 + v) / 4096 ≡ r) × ((r * 4096 + k * 256 + v) / 256 % 16 ≡ k) × ((r * 4096 + k * 256 + v) % 256 ≡ v)
+  digit-parts r = omega arith
 
-  act-put1 : actOf (put1 k v) ≡ one P1 k v
-  act-put1 = let e = digit-parts 4 k v hk hv in rw (e .0, e .1, e .2)
+  -- what the planner's words do, and that they are allowed
+  acts : (actOf (put0 k v) ≡ one P0 k v) × (actOf (put1 k v) ≡ one P1 k v) × (actOf (putBoth k v) ≡ both k v)
+  acts = (
+    rw (digit-parts 2 .0, digit-parts 2 .1, digit-parts 2 .2),
+    rw (digit-parts 4 .0, digit-parts 4 .1, digit-parts 4 .2),
+    rw (digit-parts 6 .0, digit-parts 6 .1, digit-parts 6 .2),
+  )
 
-  act-both : actOf (putBoth k v) ≡ both k v
-  act-both = let e = digit-parts 6 k v hk hv in rw (e .0, e .1, e .2)
+  may : (c : Config) → (allowedBy c (put0 k v) ≡ true) × (allowedBy c (put1 k v) ≡ true) × (allowedBy c (putBoth k v) ≡ true)
+  may c = (rw (digit-parts 2 .0, or-true), rw (digit-parts 4 .0, or-true), rw (digit-parts 6 .0, or-true (eqb (putBoth k v) 0)))
 
-  may-put0 : (c : Config) → allowedBy c (put0 k v) ≡ true
-  may-put0 c = rw (ne-eqb (put0 k v) 0 (λ z. omega arith), digit-parts 2 k v hk hv .0)
-
-  may-put1 : (c : Config) → allowedBy c (put1 k v) ≡ true
-  may-put1 c = rw (ne-eqb (put1 k v) 0 (λ z. omega arith), digit-parts 4 k v hk hv .0)
-
-  may-both : (c : Config) → allowedBy c (putBoth k v) ≡ true
-  may-both c = rw (ne-eqb (putBoth k v) 0 (λ z. omega arith), digit-parts 6 k v hk hv .0)
-
-module _ (c : Config) (hi : c .i < 2) (he : c .e < 2) (hb : c .b < 2) (hs : c .s < 2) where
-  act-clear : actOf (clearWord c) ≡ clear
-  act-clear =
-      let a : clearWord c / 4096 ≡ 0 = omega arith in
-      let b : clearWord c / 256 ≡ 4 = omega arith in
-      let e : clearWord c % 256 / 2 ^ 5 % 2 ≡ 1 = omega arith in
-      rw (a, b, e)
-
-  -- at each of the sixteen configurations
-  may-clear : allowedBy c (clearWord c) ≡ true
-  may-clear =
-      all-at (λ s. may (c .i) (c .e) (c .b) s) 2
-      (all-at (λ b. all (λ s. may (c .i) (c .e) b s) 2) 2
-      (all-at (λ e. all (λ b. all (λ s. may (c .i) e b s) 2) 2) 2
-      (all-at (λ i. all (λ e. all (λ b. all (λ s. may i e b s) 2) 2) 2) 2 refl (c .i) hi) (c .e) he) (c .b) hb) (c .s) hs
-    where
-      may : ℕ → ℕ → ℕ → ℕ → Bool
-      may i e b s = allowedBy (record { i = i; e = e; b = b; s = s }) (clearWord (record { i = i; e = e; b = b; s = s }))
+-- the word that clears does so, and is allowed, at each of the sixteen configurations
+clear-word : (c : Config) → (c .i < 2) × (c .e < 2) × (c .b < 2) × (c .s < 2) → (actOf (clearWord c) ≡ clear) × (allowedBy c (clearWord c) ≡ true)
+clear-word c h =
+    let a : clearWord c / 4096 ≡ 0 = omega arith in
+    let b : clearWord c / 256 ≡ 4 = omega arith in
+    let e : clearWord c % 256 / 2 ^ 5 % 2 ≡ 1 = omega arith in (
+      rw (a, b, e),
+      all-at (λ s. at (c .i) (c .e) (c .b) s) 2
+          (all-at (λ b. all (λ s. at (c .i) (c .e) b s) 2) 2
+          (all-at (λ e. all (λ b. all (λ s. at (c .i) e b s) 2) 2) 2
+          (all-at (λ i. all (λ e. all (λ b. all (λ s. at i e b s) 2) 2) 2) 2 refl (c .i) (h .0)) (c .e) (h .1)) (c .b) (h .2)) (c .s) (h .3),
+    )
+  where
+    at : ℕ → ℕ → ℕ → ℕ → Bool
+    at i e b s = allowedBy (record { i = i; e = e; b = b; s = s }) (clearWord (record { i = i; e = e; b = b; s = s }))
 
 -- lists of words one after the other
 drawn-append : (xs ys : List ℕ) (p : Planes) → drawn p (xs ++ ys) ≡ drawn (drawn p xs) ys
@@ -78,12 +66,15 @@ every-append f (x ∷ xs) ys h g =
 abbrev mix : List ℕ → List ℕ → ℕ → List ℕ
 mix p q n = take n q ++ drop n p
 
-module _ (p q : List ℕ) (n : ℕ) (hp : n < length p) (hq : n < length q) where
-  mix-set : set (mix p q n) n (getD q n 0) ≡ mix p q (suc n)
-  mix-set = rw (drop-cons p n 0 hp, set-at (take n q) _ _ _ n (length-take-le n q (omega arith)), take-suc q n 0 hq, append-assoc)
+-- digit n set, or kept where it is right
+abbrev Step : List ℕ → List ℕ → ℕ → Type 0
+Step p q n = (set (mix p q n) n (getD q n 0) ≡ mix p q (suc n)) × (getD p n 0 ≡ getD q n 0 → mix p q n ≡ mix p q (suc n))
 
-  mix-keep : getD p n 0 ≡ getD q n 0 → mix p q n ≡ mix p q (suc n)
-  mix-keep e = rw (drop-cons p n 0 hp, take-suc q n 0 hq, append-assoc, e)
+mix-step : (p q : List ℕ) (n : ℕ) → n < length p → n < length q → Step p q n
+mix-step p q n hp hq = (
+  rw (drop-cons p n 0 hp, set-at (take n q) _ _ _ n (length-take-le n q (omega arith)), take-suc q n 0 hq, append-assoc),
+  λ e. rw (drop-cons p n 0 hp, take-suc q n 0 hq, append-assoc, e),
+)
 
 -- the planes after the words of the digits below n
 mixed : Planes → Planes → ℕ → Planes
@@ -92,42 +83,21 @@ mixed p q n = record { p0 = mix (p .p0) (q .p0) n; p1 = mix (p .p1) (q .p1) n }
 module _ (p q : Planes) (zp : Sized p) (w : Wanted q) where
   digit-drawn : (n : ℕ) → n < 16 → drawn (mixed p q n) (digitWordsAt p q n) ≡ mixed p q (suc n)
   unfolding drawn mixed
-  digit-drawn n h = go (eqb a x) (eqb b y) (eqb x y) refl refl refl
+  digit-drawn n h = go _ _ _ refl refl refl
     where
-      a : ℕ
-      a = getD (p .p0) n 0
+      first : Step (p .p0) (q .p0) n
+      first = mix-step (p .p0) (q .p0) n (rw (zp .first) h) (rw (w .sized .first) h)
 
-      b : ℕ
-      b = getD (p .p1) n 0
+      second : Step (p .p1) (q .p1) n
+      second = mix-step (p .p1) (q .p1) n (rw (zp .second) h) (rw (w .sized .second) h)
 
-      x : ℕ
-      x = getD (q .p0) n 0
-
-      y : ℕ
-      y = getD (q .p1) n 0
-
-      set0 : set (mix (p .p0) (q .p0) n) n x ≡ mix (p .p0) (q .p0) (suc n)
-      set0 = mix-set (p .p0) (q .p0) n (rw (zp .first) h) (rw (w .sized .first) h)
-
-      set1 : set (mix (p .p1) (q .p1) n) n y ≡ mix (p .p1) (q .p1) (suc n)
-      set1 = mix-set (p .p1) (q .p1) n (rw (zp .second) h) (rw (w .sized .second) h)
-
-      keep0 : a ≡ x → mix (p .p0) (q .p0) n ≡ mix (p .p0) (q .p0) (suc n)
-      keep0 = mix-keep (p .p0) (q .p0) n (rw (zp .first) h) (rw (w .sized .first) h)
-
-      keep1 : b ≡ y → mix (p .p1) (q .p1) n ≡ mix (p .p1) (q .p1) (suc n)
-      keep1 = mix-keep (p .p1) (q .p1) n (rw (zp .second) h) (rw (w .sized .second) h)
-
-      both-planes : {l0 l1 m0 m1 : List ℕ} → l0 ≡ m0 → l1 ≡ m1 → _≡_ {A = Planes} (record { p0 = l0; p1 = l1 }) (record { p0 = m0; p1 = m1 })
-      both-planes e f = λ k. record { p0 = e k; p1 = f k }
-
-      go : (s u t : Bool) → eqb a x ≡ s → eqb b y ≡ u → eqb x y ≡ t
-          → drawn (mixed p q n) (wordsBy s u t n x y) ≡ mixed p q (suc n)
-      go true true t e f g = both-planes (keep0 (eqb-true a x e)) (keep1 (eqb-true b y f))
-      go true false t e f g = rw (act-put1 n y h (w .second n)) (both-planes (keep0 (eqb-true a x e)) set1)
-      go false true t e f g = rw (act-put0 n x h (w .first n)) (both-planes set0 (keep1 (eqb-true b y f)))
-      go false false true e f g = rw (act-both n x h (w .first n)) (both-planes set0 (rw (eqb-true x y g) set1))
-      go false false false e f g = rw (act-put0 n x h (w .first n), act-put1 n y h (w .second n)) (both-planes set0 set1)
+      go : (s u t : Bool) → eqb (getD (p .p0) n 0) (getD (q .p0) n 0) ≡ s → eqb (getD (p .p1) n 0) (getD (q .p1) n 0) ≡ u
+          → eqb (getD (q .p0) n 0) (getD (q .p1) n 0) ≡ t → drawn (mixed p q n) (wordsBy s u t n (getD (q .p0) n 0) (getD (q .p1) n 0)) ≡ mixed p q (suc n)
+      go true true t e f g = rw (first .1 (eqb-true _ _ e), second .1 (eqb-true _ _ f))
+      go true false t e f g = rw (acts n _ h (w .second n) .1, first .1 (eqb-true _ _ e), second .0)
+      go false true t e f g = rw (acts n _ h (w .first n) .0, first .0, second .1 (eqb-true _ _ f))
+      go false false true e f g = rw (acts n _ h (w .first n) .2, first .0, eqb-true (getD (q .p0) n 0) _ g, second .0)
+      go false false false e f g = rw (acts n _ h (w .first n) .0, acts n _ h (w .second n) .1, first .0, second .0)
 
   steps-drawn : (n : ℕ) → n ≤ 16 → drawn p (steps p q n) ≡ mixed p q n
   unfolding drawn mixed steps
@@ -149,7 +119,7 @@ module _ (p q : Planes) (zp : Sized p) (w : Wanted q) where
       ))
 
 -- as many words as the rule says
-pub length-words : (k x y : ℕ) (r s v : Bool) → length (wordsBy r s v k x y) ≡ needBy r s v
+length-words : (k x y : ℕ) (r s v : Bool) → length (wordsBy r s v k x y) ≡ needBy r s v
 length-words k x y true true true = refl
 length-words k x y true true false = refl
 length-words k x y true false true = refl
@@ -167,20 +137,14 @@ length-steps p q (suc n) = rw (length-append, length-steps p q n, length-words)
 -- and allowed
 digit-may : (c : Config) (p q : Planes) → Wanted q → (k : ℕ) → k < 16 → every (allowedBy c) (digitWordsAt p q k) ≡ true
 unfolding every
-digit-may c p q w k h = go (eqb (getD (p .p0) k 0) x) (eqb (getD (p .p1) k 0) y) (eqb x y)
+digit-may c p q w k h = go (eqb (getD (p .p0) k 0) (getD (q .p0) k 0)) (eqb (getD (p .p1) k 0) (getD (q .p1) k 0)) (eqb (getD (q .p0) k 0) (getD (q .p1) k 0))
   where
-    x : ℕ
-    x = getD (q .p0) k 0
-
-    y : ℕ
-    y = getD (q .p1) k 0
-
-    go : (s u t : Bool) → every (allowedBy c) (wordsBy s u t k x y) ≡ true
+    go : (s u t : Bool) → every (allowedBy c) (wordsBy s u t k (getD (q .p0) k 0) (getD (q .p1) k 0)) ≡ true
     go true true t = refl
-    go true false t = rw (may-put1 k y h (w .second k) c)
-    go false true t = rw (may-put0 k x h (w .first k) c)
-    go false false true = rw (may-both k x h (w .first k) c)
-    go false false false = rw (may-put0 k x h (w .first k) c, may-put1 k y h (w .second k) c)
+    go true false t = rw (may k _ h (w .second k) c .1)
+    go false true t = rw (may k _ h (w .first k) c .0)
+    go false false true = rw (may k _ h (w .first k) c .2)
+    go false false false = rw (may k _ h (w .first k) c .0, may k _ h (w .second k) c .1)
 
 steps-may : (c : Config) (p q : Planes) → Wanted q → (n : ℕ) → n ≤ 16 → every (allowedBy c) (steps p q n) ≡ true
 unfolding every steps
@@ -200,17 +164,8 @@ plan-length p c q = go (clears p q) refl
 -- one bit each
 config-bits : (c : Config) → soundConfig c ≡ true → (c .i < 2) × (c .e < 2) × (c .b < 2) × (c .s < 2)
 config-bits c h =
-    let i = ltb (c .i) 2 in
-    let e = ltb (c .e) 2 in
-    let b = ltb (c .b) 2 in
-    let s = ltb (c .s) 2 in
-    let three = and-left (i && e && b) s h in
-    let two = and-left (i && e) b three in (
-      ltb-true (c .i) 2 (and-left i e two),
-      ltb-true (c .e) 2 (and-right i e two),
-      ltb-true (c .b) 2 (and-right (i && e) b three),
-      ltb-true (c .s) 2 (and-right (i && e && b) s h),
-    )
+    let t = all-four (ltb (c .i) 2) (ltb (c .e) 2) (ltb (c .b) 2) (ltb (c .s) 2) h in
+    (ltb-true _ 2 (t .0), ltb-true _ 2 (t .1), ltb-true _ 2 (t .2), ltb-true _ 2 (t .3))
 
 -- it is accepted
 pub plan-accepted : (d : Device) (q : Planes) → soundOf d ≡ true → Sized (d .registers .planes) → Wanted q → Accepted d q (planOf d q)
@@ -223,22 +178,15 @@ plan-accepted d q s z w = go (clears p q)
     c : Config
     c = d .registers .config
 
-    bits : (c .i < 2) × (c .e < 2) × (c .b < 2) × (c .s < 2)
-    bits = config-bits c (parts (d .registers) (registers-sound d s) .config)
-
     accepted : (ws : List ℕ) → every (allowed d) ws ≡ true → drawn p ws ≡ q → Accepted d q ws
     accepted ws h e = record { alone = h; ends = after-planes ws d h ∙ e }
 
     go : (b : Bool) → Accepted d q (if b (clearWord c ∷ steps cleared q 16) (steps p q 16))
-    go true = accepted (clearWord c ∷ steps cleared q 16) may ends
-      where
-        may : every (allowed d) (clearWord c ∷ steps cleared q 16) ≡ true
-        may = rw (may-clear c (bits .0) (bits .1) (bits .2) (bits .3)) (steps-may c cleared q w 16 (omega arith))
-
-        ends : drawn p (clearWord c ∷ steps cleared q 16) ≡ q
-        ends =
-            ap (λ (a : Act). drawn (acted p a) (steps cleared q 16)) (act-clear c (bits .0) (bits .1) (bits .2) (bits .3))
-            ∙ steps-end cleared q (record { first = refl; second = refl }) w
+    go true =
+        let clear = clear-word c (config-bits c (parts (d .registers) (registers-sound d s) .config)) in
+        accepted (clearWord c ∷ steps cleared q 16)
+        (rw (clear .1) (steps-may c cleared q w 16 (omega arith)))
+        (ap (λ a. drawn (acted p a) (steps cleared q 16)) (clear .0) ∙ steps-end cleared q (record { first = refl; second = refl }) w)
     go false = accepted (steps p q 16) (steps-may c p q w 16 (omega arith)) (steps-end p q z w)
 
 pub one-driver : OneDriver

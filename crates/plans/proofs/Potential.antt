@@ -1,6 +1,6 @@
 -- The least number of words falls by at most one with each word, and is 0 at the wanted planes; so no list of fewer words gets there.
 -- Assumes nothing.
-use Rattle.ground.proofs.Names.{ℕ, zero, suc, _+_, _*_, _<_, _≤_, suc-mul, arith, ℕ-discrete, Bool, true, false, List, [], _∷_, _≢_, _≡_, refl, sym, _∙_, eqb, length, getD, set, length-set, getD-set-same, getD-set-other, eqb-true, eq-eqb}
+use Rattle.ground.proofs.Names.{ℕ, zero, suc, _+_, _*_, _<_, _≤_, max, suc-mul, arith, ℕ-discrete, Bool, true, false, List, [], _∷_, _≢_, _≡_, refl, sym, _∙_, eqb, length, getD, set, length-set, getD-set-same, getD-set-other, eqb-true, eq-eqb}
 use Rattle.words.specs.declared.Plane.the-variants.{P0, P1}
 use Rattle.digits.specs.declared.Planes.{Planes}
 use Rattle.device.specs.declared.Device.{Device}
@@ -37,48 +37,32 @@ wrong-le : (r : Bool) → wrong r ≤ 1
 wrong-le true = omega arith
 wrong-le false = omega arith
 
--- a digit's need by its three tests: the most there is, the most where both are wanted alike, and where nothing is wrong
-needBy-le : (r s v : Bool) → needBy r s v ≤ 2
-needBy-le r s true = omega (arith, wrong-le r, wrong-le s)
-needBy-le r s false = omega (arith, wrong-le r, wrong-le s)
+-- a digit's need lies between the larger of what its two bytes need and their sum; where both are wanted alike it is at most one
+need-between : (r s v : Bool) → (max (wrong r) (wrong s) ≤ needBy r s v) × (needBy r s v ≤ wrong r + wrong s)
+need-between r s true = omega arith
+need-between r s false = omega arith
 
 need-alike : (r s : Bool) → needBy r s true ≤ 1
 need-alike r s = omega (arith, wrong-le r, wrong-le s)
 
-need-none : (v : Bool) → needBy true true v ≤ 0
-need-none true = omega arith
-need-none false = omega arith
-
 pub need-le : (a b x y : ℕ) → need a b x y ≤ 2
-need-le a b x y = needBy-le (eqb a x) (eqb b y) (eqb x y)
+need-le a b x y = omega (arith, need-between (eqb a x) (eqb b y) (eqb x y), wrong-le (eqb a x), wrong-le (eqb b y))
 
 -- one byte changed
 need-first : (a a′ b x y : ℕ) → need a b x y ≤ need a′ b x y + 1
-need-first a a′ b x y = go (eqb a x) (eqb a′ x) (eqb b y) (eqb x y)
-  where
-    go : (r r′ s v : Bool) → needBy r s v ≤ needBy r′ s v + 1
-    go r r′ s true = omega (arith, wrong-le r)
-    go r r′ s false = omega (arith, wrong-le r)
+need-first a a′ b x y = omega (arith, need-between (eqb a x) (eqb b y) (eqb x y), need-between (eqb a′ x) (eqb b y) (eqb x y), wrong-le (eqb a x))
 
 need-second : (a b b′ x y : ℕ) → need a b x y ≤ need a b′ x y + 1
-need-second a b b′ x y = go (eqb a x) (eqb b y) (eqb b′ y) (eqb x y)
-  where
-    go : (r s s′ v : Bool) → needBy r s v ≤ needBy r s′ v + 1
-    go r s s′ true = omega (arith, wrong-le s)
-    go r s s′ false = omega (arith, wrong-le s)
+need-second a b b′ x y = omega (arith, need-between (eqb a x) (eqb b y) (eqb x y), need-between (eqb a x) (eqb b′ y) (eqb x y), wrong-le (eqb b y))
 
 -- both bytes changed to one
 need-both : (a b v x y : ℕ) → need a b x y ≤ need v v x y + 1
-need-both a b v x y = go (eqb v x) (eqb v y) (eqb x y) refl refl
+need-both a b v x y = go (eqb v x) (eqb v y) refl refl
   where
-    go : (s u t : Bool) → eqb v x ≡ s → eqb v y ≡ u → need a b x y ≤ needBy s u t + 1
-    go true true t e f =
-        let q : eqb x y ≡ true = eq-eqb x y (sym (eqb-true v x e) ∙ eqb-true v y f) in
-        rw q (omega (arith, need-alike (eqb a x) (eqb b y)))
-    go true false true e f = omega (arith, need-le a b x y)
-    go true false false e f = omega (arith, need-le a b x y)
-    go false u true e f = omega (arith, need-le a b x y)
-    go false u false e f = omega (arith, need-le a b x y)
+    go : (s u : Bool) → eqb v x ≡ s → eqb v y ≡ u → need a b x y ≤ needBy s u (eqb x y) + 1
+    go true true e f = rw (eq-eqb x y (sym (eqb-true v x e) ∙ eqb-true v y f)) (omega (arith, need-alike (eqb a x) (eqb b y)))
+    go true false e f = omega (arith, need-le a b x y, need-between true false (eqb x y))
+    go false u e f = omega (arith, need-le a b x y, need-between false u (eqb x y))
 
 acted-sized : (p : Planes) → Sized p → (a : Act) → Sized (acted p a)
 acted-sized p z stay = z
@@ -133,7 +117,7 @@ least-same : (q : Planes) → least q q ≡ 0
 least-same q = omega (arith, total-le 16 0 (needAt q q) (λ k. none (getD (q .p0) k 0) (getD (q .p1) k 0)))
   where
     none : (x y : ℕ) → need x y x y ≤ 0
-    none x y = rw (eq-eqb x x refl, eq-eqb y y refl) (need-none (eqb x y))
+    none x y = rw (eq-eqb x x refl, eq-eqb y y refl) (omega (arith, need-between true true (eqb x y)))
 
 -- a digit needs at most two, a driver at most 32
 pub needs-le : (p q : Planes) (n : ℕ) → total n (needAt p q) ≤ n * 2

@@ -11,7 +11,7 @@ use Rattle.look_back.specs.LookBack.{byteOf, byteAfter}
 use Rattle.look_back.specs.Stops.{stops, placeBefore, lastPlace, stoppingPlace}
 use Rattle.look_back.specs.Masks.{leftBy, byteBy}
 use Rattle.look_back.specs.NoFurther.{NoFurther}
-use Rattle.look_back.proofs.PlaceLaws.{holds-there, holds-not, place-drop, drop-place}
+use Rattle.look_back.proofs.PlaceLaws.{holds-there, holds-not, drop-place}
 use Rattle.look_back.proofs.PlaneLaws.{taken-plane, new-length, new-byte}
 
 -- a list, by its stopping place
@@ -39,7 +39,7 @@ sized P1 d z = z .second
 
 -- by a place that was found to be the stopping place
 pub looked-by : (p : Plane) (i : ℕ) → i < 16 → (ws : List ℕ) (d : Device) → Sized (d .registers .planes) → (n : ℕ) → n ≡ stoppingPlace p i ws → byteBy n ws (byteOf d p i) ≡ byteAfter d p i ws
-looked-by p i k ws d z n e = ap (λ (m : ℕ). byteBy m ws (byteOf d p i)) e ∙ sym (looked p i k ws d (sized p d z))
+looked-by p i k ws d z n e = rw e (sym (looked p i k ws d (sized p d z)))
 
 -- the byte that the word at a place leaves
 pub byte-at : (n : ℕ) (ws : List ℕ) (held : ℕ) → 0 < n → byteBy n ws held ≡ leftBy (getD ws (n - 1) 0)
@@ -48,7 +48,7 @@ byte-at (suc n) ws held h = let e : suc n - 1 ≡ n = omega arith in rw e
 
 -- the theorem, by the byte that the stopping place decides
 stops-there : (p : Plane) (i : ℕ) (ws : List ℕ) → 0 < stoppingPlace p i ws → stops p i (getD ws (stoppingPlace p i ws - 1) 0) ≡ true
-stops-there p i ws h = holds-there (stops p i) ws (stoppingPlace p i ws - 1) (omega arith)
+stops-there p i ws h = holds-there (stops p i) ws (stoppingPlace p i ws - 1) (omega arith) .0
 
 -- the word that a part of a list begins with
 first-word : (l : List ℕ) (m : ℕ) → getD l m 0 ≡ getD (drop m l) 0 0
@@ -62,16 +62,14 @@ alike : (d e : Device) (p : Plane) (i : ℕ) (xs ys : List ℕ) (j : ℕ)
 alike d e p i xs ys j zd ze k h g =
     let m = stoppingPlace p i xs - 1 in
     let q : stoppingPlace p i xs ≡ suc m = omega arith in
-    let first : stoppingPlace p i (drop j ys) ≡ 1 = ap (stoppingPlace p i) (sym g) ∙ place-drop (stops p i) xs m q in
+    let first : stoppingPlace p i (drop j ys) ≡ 1 = ap (stoppingPlace p i) (sym g) ∙ holds-there (stops p i) xs m q .1 in
     let r : stoppingPlace p i ys ≡ suc j = drop-place (stops p i) ys j first in
     let word : getD xs m 0 ≡ getD ys j 0 = first-word xs m ∙ ap (λ (l : List ℕ). getD l 0 0) g ∙ sym (first-word ys j) in
     looked p i k xs d (sized p d zd)
-    ∙ ap (λ (n : ℕ). byteBy n xs (byteOf d p i)) q
-    ∙ ap leftBy word
-    ∙ sym (looked p i k ys e (sized p e ze) ∙ ap (λ (n : ℕ). byteBy n ys (byteOf e p i)) r)
+    ∙ rw (q, word) (sym (looked p i k ys e (sized p e ze) ∙ rw r))
 
 falls-back : (d : Device) (p : Plane) (i : ℕ) (ws : List ℕ) → Sized (d .registers .planes) → i < 16 → stoppingPlace p i ws ≡ 0 → byteAfter d p i ws ≡ byteOf d p i
-falls-back d p i ws z k h = looked p i k ws d (sized p d z) ∙ ap (λ (n : ℕ). byteBy n ws (byteOf d p i)) h
+falls-back d p i ws z k h = looked p i k ws d (sized p d z) ∙ rw h
 
 pub no-further : NoFurther
 no-further = record { stops-there = stops-there; none-later = λ p i. holds-not (stops p i); alike = alike; falls-back = falls-back }

@@ -14,8 +14,7 @@ two-bytes x y a b p q = go (eqb x a) refl (eqb y b) refl
     go : (s : Bool) → eqb x a ≡ s → (t : Bool) → eqb y b ≡ t → eqb (x * 256 + y) (a * 256 + b) ≡ (s && t)
     go true e true g = let u = eqb-true x a e in let v = eqb-true y b g in eq-eqb (x * 256 + y) (a * 256 + b) (rw (u, v))
     go true e false g = ne-eqb (x * 256 + y) (a * 256 + b) (λ (z : x * 256 + y ≡ a * 256 + b). eqb-false y b g (omega (arith, z, p, q)))
-    go false e true g = ne-eqb (x * 256 + y) (a * 256 + b) (λ (z : x * 256 + y ≡ a * 256 + b). eqb-false x a e (omega (arith, z, p, q)))
-    go false e false g = ne-eqb (x * 256 + y) (a * 256 + b) (λ (z : x * 256 + y ≡ a * 256 + b). eqb-false x a e (omega (arith, z, p, q)))
+    go false e t g = ne-eqb (x * 256 + y) (a * 256 + b) (λ (z : x * 256 + y ≡ a * 256 + b). eqb-false x a e (omega (arith, z, p, q)))
 
 -- a masked word against a number, byte by byte
 masked : (w mh ml a b : ℕ) → ml < 256 → b < 256 → eqb (bitAnd w (mh * 256 + ml)) (a * 256 + b) ≡ (eqb (bitAnd (w / 256) mh) a && eqb (bitAnd (w % 256) ml) b)

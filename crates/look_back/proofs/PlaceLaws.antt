@@ -1,27 +1,25 @@
 -- The place of the last word at which a test holds: of a word after a list, of a part of it, and of two tests that agree.
 -- Assumes nothing.
-use Rattle.ground.proofs.Names.{ℕ, zero, suc, _<_, _≤_, not-suc-le-zero, le-of-suc-le-suc, arith, Bool, true, false, List, [], _∷_, _++_, _≡_, refl, ap, _∙_, length, getD, take, drop, take-suc, length-take-le}
+use Rattle.ground.proofs.Names.{ℕ, zero, suc, _<_, _≤_, not-suc-le-zero, le-of-suc-le-suc, arith, Bool, true, false, List, [], _∷_, _++_, _≡_, refl, length, getD, take, drop, take-suc, length-take-le, if}
 use Rattle.look_back.specs.Stops.{placeBefore, lastPlace}
 
 module _ (f : ℕ → Bool) where
   -- a word at the end at which the test holds, or doesn't
-  snoc-stops : (xs : List ℕ) (w : ℕ) → f w ≡ true → lastPlace f (xs ++ w ∷ []) ≡ suc (length xs)
+  snoc-stops : (xs : List ℕ) (w : ℕ) → lastPlace f (xs ++ w ∷ []) ≡ if (f w) (suc (length xs)) (lastPlace f xs)
   unfolding lastPlace
-  snoc-stops [] w h = rw h
-  snoc-stops (x ∷ xs) w h = rw (snoc-stops xs w h)
-
-  snoc-goes : (xs : List ℕ) (w : ℕ) → f w ≡ false → lastPlace f (xs ++ w ∷ []) ≡ lastPlace f xs
-  unfolding lastPlace
-  snoc-goes [] w h = rw h
-  snoc-goes (x ∷ xs) w h = rw (snoc-goes xs w h)
+  snoc-stops [] w = elim (f w) as (λ b. placeBefore b 0 ≡ if b 1 0) [ true ↦ refl | false ↦ refl ]
+  snoc-stops (x ∷ xs) w =
+      let n = length xs in
+      rw (snoc-stops xs w)
+      (elim (f w) as (λ b. placeBefore (f x) (if b (suc n) (lastPlace f xs)) ≡ if b (suc (suc n)) (placeBefore (f x) (lastPlace f xs))) [ true ↦ refl | false ↦ refl ])
 
   -- the first m words, by the last of them
   pub stops-at : (ws : List ℕ) (k m : ℕ) → m ≡ suc k → m ≤ length ws → f (getD ws k 0) ≡ true → lastPlace f (take m ws) ≡ m
   stops-at ws k m e h t =
-      rw (e, take-suc ws k 0 (omega arith)) (snoc-stops (take k ws) (getD ws k 0) t ∙ ap suc (length-take-le k ws (omega arith)))
+      rw (e, take-suc ws k 0 (omega arith), snoc-stops (take k ws) (getD ws k 0), t, length-take-le k ws (omega arith))
 
   pub goes-on : (ws : List ℕ) (k m : ℕ) → m ≡ suc k → m ≤ length ws → f (getD ws k 0) ≡ false → lastPlace f (take m ws) ≡ lastPlace f (take k ws)
-  goes-on ws k m e h t = rw (e, take-suc ws k 0 (omega arith)) (snoc-goes (take k ws) (getD ws k 0) t)
+  goes-on ws k m e h t = rw (e, take-suc ws k 0 (omega arith), snoc-stops (take k ws) (getD ws k 0), t)
 
   -- of no word
   pub no-words : (ws : List ℕ) (m : ℕ) → m ≡ 0 → lastPlace f (take m ws) ≡ 0
@@ -39,15 +37,16 @@ module _ (f : ℕ → Bool) where
       go true zero h = omega arith
       go false zero h = omega arith
 
-  -- the test holds at the place, and at none after it
-  pub holds-there : (ws : List ℕ) (m : ℕ) → lastPlace f ws ≡ suc m → f (getD ws m 0) ≡ true
+  -- the test holds at the place, at which the list from there on has its own, and at none after it
+  pub holds-there : (ws : List ℕ) (m : ℕ) → lastPlace f ws ≡ suc m → (f (getD ws m 0) ≡ true) × (lastPlace f (drop m ws) ≡ 1)
   unfolding lastPlace
   holds-there [] m h = absurd (omega (arith, h))
   holds-there (w ∷ ws) m h = go (holds-there ws) (f w) refl (lastPlace f ws) refl h
     where
-      go : ((n : ℕ) → lastPlace f ws ≡ suc n → f (getD ws n 0) ≡ true) → (b : Bool) → f w ≡ b → (n : ℕ) → lastPlace f ws ≡ n → placeBefore b n ≡ suc m → f (getD (w ∷ ws) m 0) ≡ true
+      go : ((n : ℕ) → lastPlace f ws ≡ suc n → (f (getD ws n 0) ≡ true) × (lastPlace f (drop n ws) ≡ 1)) → (b : Bool) → f w ≡ b → (n : ℕ) → lastPlace f ws ≡ n
+          → placeBefore b n ≡ suc m → (f (getD (w ∷ ws) m 0) ≡ true) × (lastPlace f (drop m (w ∷ ws)) ≡ 1)
       go later b e (suc n) g h = let q : m ≡ suc n = omega (arith, h) in rw q (later n g)
-      go later true e zero g h = let q : m ≡ 0 = omega (arith, h) in rw q e
+      go later true e zero g h = let q : m ≡ 0 = omega (arith, h) in rw q (e, rw (e, g))
       go later false e zero g h = absurd (omega (arith, h))
 
   pub holds-not : (ws : List ℕ) (k : ℕ) → lastPlace f ws ≤ k → k < length ws → f (getD ws k 0) ≡ false
@@ -63,18 +62,7 @@ module _ (f : ℕ → Bool) where
       go later true e zero g (suc k) h l = later k (rw g (omega arith)) (le-of-suc-le-suc l)
       go later false e zero g (suc k) h l = later k (rw g (omega arith)) (le-of-suc-le-suc l)
 
-  -- the list from its place on has it at the first word
-  pub place-drop : (xs : List ℕ) (m : ℕ) → lastPlace f xs ≡ suc m → lastPlace f (drop m xs) ≡ 1
-  unfolding lastPlace
-  place-drop [] m h = absurd (omega (arith, h))
-  place-drop (w ∷ ws) m h = go (place-drop ws) (f w) refl (lastPlace f ws) refl h
-    where
-      go : ((n : ℕ) → lastPlace f ws ≡ suc n → lastPlace f (drop n ws) ≡ 1) → (b : Bool) → f w ≡ b → (n : ℕ) → lastPlace f ws ≡ n → placeBefore b n ≡ suc m → lastPlace f (drop m (w ∷ ws)) ≡ 1
-      go later b e (suc n) g h = let q : m ≡ suc n = omega (arith, h) in rw q (later n g)
-      go later true e zero g h = let q : m ≡ 0 = omega (arith, h) in rw (q, e, g)
-      go later false e zero g h = absurd (omega (arith, h))
-
-  -- and a list has it where its part that begins there has
+  -- a list has its place where its part that begins there has it at the first word
   pub drop-place : (ys : List ℕ) (j : ℕ) → lastPlace f (drop j ys) ≡ 1 → lastPlace f ys ≡ suc j
   unfolding lastPlace
   drop-place ys zero h = h

@@ -1,6 +1,7 @@
 -- A word that a driver takes, to one of its planes: as it was, cleared, or with a digit set; and so to one byte, by whether the word stops.
 -- Assumes nothing.
 use Rattle.ground.proofs.Names.{ℕ, _+_, _/_, _%_, _<_, _≤_, ℕ-discrete, arith, Bool, true, false, _&&_, _||_, Bool·beq, true≢false, List, _≡_, refl, sym, ap, _∙_, eqb, length, getD, set, replicate, length-set, getD-replicate, getD-set-same, getD-set-other, eqb-true, eqb-false, ne-eqb, le-ltb, if, bit, all, all-at, low-bit, same}
+use mathlib.Core.Bool.{or-false}
 use Rattle.words.specs.Addresses.{highRegister, writtenAt, readAt}
 use Rattle.words.specs.declared.Plane.{Plane}
 use Rattle.words.specs.declared.Plane.the-variants.{P0, P1}
@@ -65,11 +66,12 @@ inRow p a = eqb (a / 16) (rowOf p) || eqb (a / 16) 6
 abbrev elsewhere : ℕ → Bool
 elsewhere a = eqb a 4 || eqb (a / 16) 2 || eqb (a / 16) 4 || eqb (a / 16) 6 || leaves (writtenAt a)
 
-leaves-at : (a : ℕ) → a < 128 → eqb a 4 ≡ false → eqb (a / 16) 2 ≡ false → eqb (a / 16) 4 ≡ false → eqb (a / 16) 6 ≡ false → leaves (writtenAt a) ≡ true
-leaves-at a l e e2 e4 e6 = let t : elsewhere a ≡ true = all-at elsewhere 128 refl a l in rest t
-  where
-    rest : elsewhere a ≡ true → leaves (writtenAt a) ≡ true
-    rest t = sym (rw (e, e2, e4, e6) refl) ∙ t
+leaves-at : (a : ℕ) → a < 128 → eqb a 4 ≡ false → (a / 16 ≡ 2 → ⊥) → (a / 16 ≡ 4 → ⊥) → (a / 16 ≡ 6 → ⊥) → leaves (writtenAt a) ≡ true
+leaves-at a l e z y u =
+    let e2 = ne-eqb (a / 16) 2 z in
+    let e4 = ne-eqb (a / 16) 4 y in
+    let e6 = ne-eqb (a / 16) 6 u in
+    rw (e2, e4, e6) (rw (e, e2, e4, e6) at (all-at elsewhere 128 refl a l))
 
 digit-at : (a r : ℕ) → a / 16 ≡ r → 2 ≤ r → writtenAt a ≡ highRegister r (a % 16)
 digit-at a r e l = rw (ne-eqb (a / 8) 1 (λ z. omega arith), le-ltb a 8 (omega arith), e)
@@ -110,6 +112,9 @@ module _ (d : Device) (w : ℕ) (e15 : bit 15 w ≡ false) where
   by-row : (p : Plane) → eqb a 4 ≡ false → planeOf (taken d w .registers .planes) p ≡ if (inRow p a) (set (planeOf (x .planes) p) (a % 16) (w % 256)) (planeOf (x .planes) p)
   by-row p n = go p (ℕ-discrete (a / 16) 2) (ℕ-discrete (a / 16) 4) (ℕ-discrete (a / 16) 6)
     where
+      kept : (a / 16 ≡ 2 → ⊥) → (a / 16 ≡ 4 → ⊥) → (a / 16 ≡ 6 → ⊥) → written x (writtenAt a) (w % 256) .planes ≡ x .planes
+      kept z y u = write-planes x (writtenAt a) (w % 256) (leaves-at a (omega arith) n z y u)
+
       go : (p : Plane) → Dec (a / 16 ≡ 2) → Dec (a / 16 ≡ 4) → Dec (a / 16 ≡ 6)
           → planeOf (taken d w .registers .planes) p ≡ if (inRow p a) (set (planeOf (x .planes) p) (a % 16) (w % 256)) (planeOf (x .planes) p)
       go P0 (yes e) _ _ = rw (by-write, digit-at a 2 e (omega arith), e)
@@ -118,16 +123,8 @@ module _ (d : Device) (w : ℕ) (e15 : bit 15 w ≡ false) where
       go P1 (no z) (yes e) _ = rw (by-write, digit-at a 4 e (omega arith), e)
       go P0 (no z) (no y) (yes e) = rw (by-write, digit-at a 6 e (omega arith), e)
       go P1 (no z) (no y) (yes e) = rw (by-write, digit-at a 6 e (omega arith), e)
-      go p (no z) (no y) (no u) =
-          let e2 = ne-eqb (a / 16) 2 z in
-          let e4 = ne-eqb (a / 16) 4 y in
-          let e6 = ne-eqb (a / 16) 6 u in
-          let t : inRow p a ≡ false = out p e2 e4 e6 in
-          rw (by-write, write-planes x (writtenAt a) (w % 256) (leaves-at a (omega arith) n e2 e4 e6), t)
-        where
-          out : (p : Plane) → eqb (a / 16) 2 ≡ false → eqb (a / 16) 4 ≡ false → eqb (a / 16) 6 ≡ false → inRow p a ≡ false
-          out P0 e2 e4 e6 = rw (e2, e6)
-          out P1 e2 e4 e6 = rw (e4, e6)
+      go P0 (no z) (no y) (no u) = rw (by-write, kept z y u, ne-eqb (a / 16) 2 z, ne-eqb (a / 16) 6 u)
+      go P1 (no z) (no y) (no u) = rw (by-write, kept z y u, ne-eqb (a / 16) 4 y, ne-eqb (a / 16) 6 u)
 
 pub taken-plane : (d : Device) (w : ℕ) (p : Plane) → planeOf (taken d w .registers .planes) p ≡ newPlane p w (planeOf (d .registers .planes) p)
 taken-plane d w p = go (bit 15 w) refl (eqb (w / 256 % 128) 4) refl
@@ -167,23 +164,11 @@ getD-touched true l k v i h = go (eqb k i) refl
 pub new-byte : (p : Plane) (w : ℕ) (l : List ℕ) (i : ℕ) → length l ≡ 16 → i < 16 → getD (newPlane p w l) i 0 ≡ if (stops p i w) (leftBy w) (getD l i 0)
 new-byte p w l i h k = go (bit 15 w) refl (eqb (w / 256 % 128) 4) refl
   where
-    or-false : (b : Bool) → (b || false) ≡ b
-    or-false true = refl
-    or-false false = refl
-
-    cleared : (b : Bool) → getD (if b (replicate 16 0) l) i 0 ≡ if b 0 (getD l i 0)
-    cleared true = getD-replicate 16 i 0 0 k
-    cleared false = refl
-
     go : (b : Bool) → bit 15 w ≡ b → (c : Bool) → eqb (w / 256 % 128) 4 ≡ c → getD (newPlane p w l) i 0 ≡ if (stops p i w) (leftBy w) (getD l i 0)
     go true e c g = rw e
     go false e true g =
         let q = eqb-true (w / 256 % 128) 4 g in
-        let n : (eqb 4 (firstAddress p + i) || eqb 4 (0x60 + i)) ≡ false = row-right p 4 i (omega arith) k ∙ none p in
-        rw (e, q, n) (cleared (bit 5 w))
-      where
-        none : (p : Plane) → (inRow p 4 && eqb (4 % 16) i) ≡ false
-        none P0 = refl
-        none P1 = refl
+        let n : (eqb 4 (firstAddress p + i) || eqb 4 (0x60 + i)) ≡ false = row-right p 4 i (omega arith) k ∙ elim p as (λ p. (inRow p 4 && eqb (4 % 16) i) ≡ false) [ P0 ↦ refl | P1 ↦ refl ] in
+        rw (e, q, n) (elim (bit 5 w) as (λ b. getD (if b (replicate 16 0) l) i 0 ≡ if b 0 (getD l i 0)) [ true ↦ getD-replicate 16 i 0 0 k | false ↦ refl ])
     go false e false g =
         rw (e, g, row-right p (w / 256 % 128) i (omega arith) k, or-false) (getD-touched (inRow p (w / 256 % 128)) l (w / 256 % 128 % 16) (w % 256) i (rw h k))

@@ -13,6 +13,7 @@ use Rattle.plans.specs.Words.{digitWrite, every}
 use Rattle.plans.specs.Act.{acted, actOf}
 use Rattle.plans.specs.Plan.{put0, put1, putBoth}
 use Rattle.plans.proofs.Act.{or-cases, config-word, by-none, by-digit}
+use Rattle.plans.proofs.Planner.{digit-parts}
 use Rattle.laws.specs.DriverLaws.{registersAfter, digitOf, drawing, clearing, DriverLaws, OrderExamples}
 
 -- a list with a digit set, or as it was
@@ -57,49 +58,26 @@ either-order d w v g h ne =
     ∙ ap₂ (λ (x y : List ℕ). withPlanes (d .registers) (record { p0 = x; p1 = y })) e0 e1
     ∙ sym (after-writes d v w h g)
 
--- what the three words to digit k name
+-- the three words to digit k
 module _ (d : Device) (k v : ℕ) (hk : k < 16) (hv : v < 256) where
-  row0 : (put0 k v / 4096 ≡ 2) × (put0 k v / 256 % 16 ≡ k) × (put0 k v % 256 ≡ v)
-  row0 = (omega (arith, hk, hv), omega (arith, hk, hv), omega (arith, hk, hv))
-
-  row1 : (put1 k v / 4096 ≡ 4) × (put1 k v / 256 % 16 ≡ k) × (put1 k v % 256 ≡ v)
-  row1 = (omega (arith, hk, hv), omega (arith, hk, hv), omega (arith, hk, hv))
-
-  rowBoth : (putBoth k v / 4096 ≡ 6) × (putBoth k v / 256 % 16 ≡ k) × (putBoth k v % 256 ≡ v)
-  rowBoth = (omega (arith, hk, hv), omega (arith, hk, hv), omega (arith, hk, hv))
-
-  is0 : digitWrite (put0 k v) ≡ true
-  is0 = rw (row0 .0)
-
-  is1 : digitWrite (put1 k v) ≡ true
-  is1 = rw (row1 .0)
-
-  isBoth : digitWrite (putBoth k v) ≡ true
-  isBoth = rw (rowBoth .0)
-
   -- digit k set in both lists
-  Set : Registers → Type 0
-  Set x = x ≡ withPlanes (d .registers) (record { p0 = set (d .registers .planes .p0) k v; p1 = set (d .registers .planes .p1) k v })
+  abbrev bothSet : Registers
+  bothSet = withPlanes (d .registers) (record { p0 = set (d .registers .planes .p0) k v; p1 = set (d .registers .planes .p1) k v })
 
-  by-both : Set (registersAfter d (putBoth k v ∷ []))
-  unfolding Set
-  by-both = after-write d (putBoth k v) isBoth ∙ rw (rowBoth .0, rowBoth .1, rowBoth .2)
-
-  by-two : Set (registersAfter d (put0 k v ∷ put1 k v ∷ []))
-  unfolding Set
-  by-two = after-writes d (put0 k v) (put1 k v) is0 is1 ∙ rw (row0 .0, row0 .1, row0 .2, row1 .0, row1 .1, row1 .2)
-
-  by-two-turned : Set (registersAfter d (put1 k v ∷ put0 k v ∷ []))
-  unfolding Set
-  by-two-turned = after-writes d (put1 k v) (put0 k v) is1 is0 ∙ rw (row0 .0, row0 .1, row0 .2, row1 .0, row1 .1, row1 .2)
+  by-both : registersAfter d (putBoth k v ∷ []) ≡ bothSet
+  by-both = let r = digit-parts k v hk hv 6 in after-write d (putBoth k v) (rw (r .0)) ∙ rw (r .0, r .1, r .2)
 
   pub both-planes : registersAfter d (putBoth k v ∷ []) ≡ registersAfter d (put0 k v ∷ put1 k v ∷ [])
-  unfolding Set
-  both-planes = by-both ∙ sym by-two
+  both-planes =
+      let r = digit-parts k v hk hv 2 in
+      let s = digit-parts k v hk hv 4 in
+      by-both ∙ sym (after-writes d (put0 k v) (put1 k v) (rw (r .0)) (rw (s .0)) ∙ rw (r .0, r .1, r .2, s .0, s .1, s .2))
 
   both-planes-turned : registersAfter d (putBoth k v ∷ []) ≡ registersAfter d (put1 k v ∷ put0 k v ∷ [])
-  unfolding Set
-  both-planes-turned = by-both ∙ sym by-two-turned
+  both-planes-turned =
+      let r = digit-parts k v hk hv 2 in
+      let s = digit-parts k v hk hv 4 in
+      by-both ∙ sym (after-writes d (put1 k v) (put0 k v) (rw (s .0)) (rw (r .0)) ∙ rw (r .0, r .1, r .2, s .0, s .1, s .2))
 
 -- the no-op leaves the registers, and a digit write after it does what it does alone
 rests : (d : Device) → taken d 0 .registers ≡ d .registers

@@ -1,6 +1,7 @@
 -- The proof of `specs/ChainLaws.antt`'s laws: by demand 3 a driver of the chain takes its own words, one after the other.
 -- Assumes nothing.
 use Rattle.ground.proofs.Names.{ℕ, _*_, _≤_, Bool, true, _&&_, List, [], _∷_, _++_, map, _≡_, refl, sym, ap, ap₂, _∙_, eqb, length, eqb-true, if, and-left, and-right}
+use mathlib.Core.List.{map-append}
 use Rattle.device.specs.Table15.{afterWords}
 use Rattle.device.specs.Taken.{taken}
 use Rattle.device.specs.declared.Device.{Device}
@@ -66,10 +67,6 @@ accepted-last n room a (b ∷ sents) h g =
       accepted-last n room a sents (and-right (accepted n (access (16 * n) b room)) _ h) g,
     )
 
-map-last : (f : List ℕ → ℕ) (sents : List (List ℕ)) (a : List ℕ) → map f (sents ++ a ∷ []) ≡ map f sents ++ f a ∷ []
-map-last f [] a = refl
-map-last f (b ∷ sents) a = ap (λ (ws : List ℕ). f b ∷ ws) (map-last f sents a)
-
 pub chain-laws : ChainLaws
 chain-laws =
     record {
@@ -88,7 +85,7 @@ chain-laws =
           let n = length ds in
           let t = accepted-first n room clear sents h in
           own-words ds room (sents ++ clear ∷ []) s (accepted-last n room clear sents (t .1) (t .0)) i l g
-          ∙ ap (registersAfter (recordOf ds i)) (map-last (ownWord n i) sents clear)
+          ∙ ap (registersAfter (recordOf ds i)) (map-append (ownWord n i) sents (clear ∷ []))
           ∙ clear-alone (recordOf ds i) (map (ownWord n i) sents) (ownWord n i clear) d c
           ∙ sym (own-words ds room (clear ∷ []) s (t .0) i l g);
     }

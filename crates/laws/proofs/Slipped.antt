@@ -72,6 +72,9 @@ all-alike ds es ws a =
 length-words : (ds : List Device) → length (shiftWords ds) ≡ length ds
 length-words ds = length-map ds (λ (d : Device). d .shift)
 
+string-bits : (ds : List Device) → length (string (shiftWords ds)) ≡ 16 * length ds
+string-bits ds = rw (length-string (shiftWords ds), length-words ds)
+
 module _ (c : ℕ) (sent room : List ℕ) where
   -- an accepted access, on sound records
   access-zero : (ds : List Device) → allSound ds ≡ true → Whole (length ds) c sent room → number (access c sent room) ds ≡ 0
@@ -87,7 +90,6 @@ module _ (c : ℕ) (sent room : List ℕ) where
       let f = enough-sent (length ds) w in
       let a = length-words ds in
       let b = length-words es in
-      let g = w .clocks in
       rw (whole .new-words (shiftWords ds) sent c (omega arith) (omega arith), whole .new-words (shiftWords es) sent c (omega arith) (omega arith), a, b, l)
 
   -- driver i's
@@ -96,7 +98,6 @@ module _ (c : ℕ) (sent room : List ℕ) where
       let ws = shiftWords ds in
       let f = enough-sent (length ds) w in
       let a = length-words ds in
-      let e = w .clocks in
       let k : length ws - 1 - (i - 1) ≡ length ds - i = omega arith in
       word-shifted ws sent c (i - 1) (omega arith)
       ∙ rw (k, sent-last ws sent c (omega arith) (omega arith), a)
@@ -111,22 +112,20 @@ module _ (c : ℕ) (sent room : List ℕ) where
       let ws = shiftWords ds in
       let f = enough-sent (length ds) w in
       let a = length-words ds in
-      let e = w .clocks in
-      let l : length (string ws) ≡ 16 * length ds = length-string ws ∙ ap (λ (n : ℕ). 16 * n) a in
       ap unpack (reply-zero (access c sent room) ds (access-zero ds s w))
-      ∙ rw (unpack-append, answer-front ws sent c (omega arith) (omega arith), l, append-assoc)
+      ∙ rw (unpack-append, answer-front ws sent c (omega arith) (omega arith), string-bits ds, append-assoc)
 
   later-bits : (ds : List Device) → allSound ds ≡ true → Whole (length ds) c sent room
       → drop (16 * length ds) (unpack (reply (access c sent room) ds)) ≡ later (length ds)
   later-bits ds s w =
       ap (drop (16 * length ds)) (reply-bits ds s w)
-      ∙ drop-at (string (shiftWords ds)) (later (length ds)) (16 * length ds) (length-string (shiftWords ds) ∙ ap (λ (n : ℕ). 16 * n) (length-words ds))
+      ∙ drop-at (string (shiftWords ds)) (later (length ds)) (16 * length ds) (string-bits ds)
 
   first-bits : (ds : List Device) → allSound ds ≡ true → Whole (length ds) c sent room
       → take (16 * length ds) (unpack (reply (access c sent room) ds)) ≡ string (shiftWords ds)
   first-bits ds s w =
       ap (take (16 * length ds)) (reply-bits ds s w)
-      ∙ take-at (string (shiftWords ds)) (later (length ds)) (16 * length ds) (length-string (shiftWords ds) ∙ ap (λ (n : ℕ). 16 * n) (length-words ds))
+      ∙ take-at (string (shiftWords ds)) (later (length ds)) (16 * length ds) (string-bits ds)
 
   bytes-after : (ds : List Device) → allSound ds ≡ true → Whole (length ds) c sent room
       → drop (bytesFor c) (reply (access c sent room) ds) ≡ drop (bytesFor c) room
@@ -171,13 +170,12 @@ unfolding AllAlike
 cleared-alike [] = tt
 cleared-alike (d ∷ ds) = (refl, cleared-alike ds)
 
-cleared-words : (ds : List Device) → shiftWords (map shiftCleared ds) ≡ replicate (length ds) 0
-cleared-words [] = refl
-cleared-words (d ∷ ds) = ap (λ (ws : List ℕ). 0 ∷ ws) (cleared-words ds)
+zeros : (f : Device → ℕ) → ((d : Device) → f (shiftCleared d) ≡ 0) → (ds : List Device) → map f (map shiftCleared ds) ≡ replicate (length ds) 0
+zeros f e [] = refl
+zeros f e (d ∷ ds) = rw (e d, zeros f e ds)
 
 cleared-marks : (ds : List Device) → marks (map shiftCleared ds) ≡ replicate (length ds) 0
-cleared-marks [] = refl
-cleared-marks (d ∷ ds) = ap (λ (ws : List ℕ). 0 ∷ ws) (cleared-marks ds)
+cleared-marks = zeros (λ d. d .«answer_mark») (λ d. refl)
 
 cleared-sound : (ds : List Device) → allSound ds ≡ true → allSound (map shiftCleared ds) ≡ true
 unfolding allSound
@@ -204,7 +202,7 @@ slipped-access =
       bytes-after = λ ds c sent room. bytes-after c sent room ds;
       as-cleared = λ ds c sent room s w. wholly-alike c sent room ds (map shiftCleared ds) s (cleared-sound ds s) (cleared-alike ds) w;
       cleared-alike = cleared-alike;
-      cleared-words = cleared-words;
+      cleared-words = zeros (λ d. d .shift) (λ d. refl);
       cleared-marks = cleared-marks;
     }
 

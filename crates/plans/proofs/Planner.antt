@@ -20,7 +20,7 @@ use Rattle.plans.proofs.Potential.{none-shorter, least-le}
 
 -- a digit write by its register, digit and byte
 module _ (k v : ℕ) (hk : k < 16) (hv : v < 256) where
-  digit-parts : (r : ℕ) → ((r * 4096 + k * 256 + v) / 4096 ≡ r) × ((r * 4096 + k * 256 + v) / 256 % 16 ≡ k) × ((r * 4096 + k * 256 + v) % 256 ≡ v)
+  pub digit-parts : (r : ℕ) → ((r * 4096 + k * 256 + v) / 4096 ≡ r) × ((r * 4096 + k * 256 + v) / 256 % 16 ≡ k) × ((r * 4096 + k * 256 + v) % 256 ≡ v)
   digit-parts r = omega arith
 
   -- what the planner's words do, and that they are allowed

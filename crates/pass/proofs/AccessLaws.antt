@@ -105,20 +105,19 @@ module _ (ds : List Device) (c : ℕ) (sent room : List ℕ) where
     abbrev next : List ℕ
     next = wordsAfter (wordsTo ds zeros m) n c sent room
 
+    -- every record takes a word
+    room-is : inRoom n (length next) ≡ n
+    room-is = ap (λ (b : Bool). if b n 0) (le-leb n (length next) (omega (arith, length-next, short first-is-zero)))
+
     pub access-served : outcome (access c sent room) ds ≡ record { number = nr; records = takenTo ds next (inRoom n (length next)); back = roomAfter (wordsTo ds zeros m) n c sent room }
     unfolding after reply
     access-served =
         let each : tabulate n (λ i. taken (getD ds i powerUp) (getD next i 0)) ≡ allTaken ds (shifted (shiftWords ds) sent c) =
         tabulate-ext n _ _ (λ i b. rw shifted-words (ap (λ (v : ℕ). taken (getD ds i powerUp) v) (List·getD-append (shifted (shiftWords ds) sent c) _ 0 i (rw length-shifted-words b)))) in
-        let long : n ≤ length next = omega (arith, length-next, short first-is-zero) in
-        let room-is : inRoom n (length next) ≡ n = ap (λ (b : Bool). if b n 0) (le-leb n (length next) long) in
         let all : takenTo ds next (inRoom n (length next)) ≡ allTaken ds (shifted (shiftWords ds) sent c) = ap (λ (k : ℕ). takenTo ds next k) room-is ∙ rw (drop-length, append-nil) each in
         let back : roomAfter (wordsTo ds zeros m) n c sent room ≡ answer (shiftWords ds) sent c ++ drop (bytesFor c) room = rw (wire-fits, words-are) in
         rw (all, back, ← access-number, z)
 
     -- the same where all the records are passed, and all take a word
     pub access-whole : outcome (access c sent room) ds ≡ record { number = 0; records = takenTo ds (wordsAfter (wordsTo ds zeros n) n c sent room) n; back = roomAfter (wordsTo ds zeros n) n c sent room }
-    access-whole =
-        let long : n ≤ length next = omega (arith, length-next, short first-is-zero) in
-        let room-is : inRoom n (length next) ≡ n = ap (λ (b : Bool). if b n 0) (le-leb n (length next) long) in
-        rw (z, room-is, all-passed first-is-zero) at access-served
+    access-whole = rw (z, room-is, all-passed first-is-zero) at access-served

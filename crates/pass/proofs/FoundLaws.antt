@@ -5,39 +5,36 @@
 --     give-served, give-refused, ask-served, ask-refused       the outcome
 -- Assumes nothing.
 use Rattle.ground.proofs.Names.{ℕ, _-_, _≤_, _<_, arith, Bool, true, false, _&&_, List, [], _∷_, _≡_, refl, ap, _∙_, eqb, leb, ltb, length, getD, set, take, take-length, ne-eqb, leb-true, ltb-true, if, passed, and-right}
-use Rattle.refusals.specs.Refusals.{chainRefusal, driverRefusal, soundRefusal, firstOf}
-use Rattle.refusals.proofs.RefusalLaws.{first-zero, found-last}
+use Rattle.refusals.specs.Refusals.{chainRefusal, driverRefusal, soundRefusal}
+use Rattle.refusals.proofs.RefusalLaws.{found-last}
 use Rattle.device.specs.PowerUp.{powerUp}
 use Rattle.device.specs.declared.Device.{Device}
 use Rattle.calls.specs.Calls.{Step, Question, give, ask}
 use Rattle.calls.specs.CallRefusals.{stepRefusal, questionRefusal, allSound}
 use Rattle.calls.specs.Served.{stepped, answerTo, refusedTo}
 use Rattle.calls.specs.Outcome.{number, after, reply, outcome}
-use Rattle.calls.proofs.Accepted.{driver-there}
+use Rattle.calls.proofs.Accepted.{each-zero, driver-there}
 use Rattle.pass.specs.Found.{byArguments, toPass, toPassIn, inRoom, found, callRefusal}
 
 -- ---- a record that is passed is one of the chain
+if-below : (b : Bool) (n i : ℕ) → i < if b n 0 → (b ≡ true) × (i < n)
+if-below true n i l = (refl, l)
+if-below false n i l = absurd (omega (arith, l))
+
+if-le : (b : Bool) (n : ℕ) → if b n 0 ≤ n
+if-le true n = omega arith
+if-le false n = omega arith
+
 pub pass-below : (first n i : ℕ) → i < toPass first n → i < n
-pass-below first n i = go (eqb first 0)
-  where
-    go : (b : Bool) → i < if b n 0 → i < n
-    go true l = l
-    go false l = absurd (omega (arith, l))
+pass-below first n i l = if-below (eqb first 0) n i l .1
 
 pub pass-le : (first n : ℕ) → toPass first n ≤ n
-pass-le first n = go (eqb first 0)
-  where
-    go : (b : Bool) → if b n 0 ≤ n
-    go true = omega arith
-    go false = omega arith
+pass-le first n = if-le (eqb first 0) n
 
 pub pass-in-below : (first n w i : ℕ) → i < toPassIn first n w → (i < n) × (i < w)
-pass-in-below first n w i = go (eqb first 0) (leb n w) refl
-  where
-    go : (a b : Bool) → leb n w ≡ b → i < if (a && b) n 0 → (i < n) × (i < w)
-    go true true t l = (l, omega (arith, l, leb-true n w t))
-    go true false t l = absurd (omega (arith, l))
-    go false b t l = absurd (omega (arith, l))
+pass-in-below first n w i l =
+    let h = if-below (eqb first 0 && leb n w) n i l in
+    (h .1, omega (arith, h .1, leb-true n w (and-right (eqb first 0) (leb n w) (h .0))))
 
 pub pass-in-le : (first n w : ℕ) → toPassIn first n w ≤ w
 pass-in-le first n w = go (eqb first 0) (leb n w) refl
@@ -48,18 +45,10 @@ pass-in-le first n w = go (eqb first 0) (leb n w) refl
     go false b t = omega arith
 
 pub in-room-below : (n w i : ℕ) → i < inRoom n w → (i < n) × (i < w)
-in-room-below n w i = go (leb n w) refl
-  where
-    go : (b : Bool) → leb n w ≡ b → i < if b n 0 → (i < n) × (i < w)
-    go true t l = (l, omega (arith, l, leb-true n w t))
-    go false t l = absurd (omega (arith, l))
+in-room-below n w i l = let h = if-below (leb n w) n i l in (h .1, omega (arith, h .1, leb-true n w (h .0)))
 
 pub in-room-le : (n w : ℕ) → inRoom n w ≤ n
-in-room-le n w = go (leb n w)
-  where
-    go : (b : Bool) → if b n 0 ≤ n
-    go true = omega arith
-    go false = omega arith
+in-room-le n w = if-le (leb n w) n
 
 -- 1 isn't given: the chain isn't too long
 pub chain-long : (n : ℕ) → chainRefusal n ≡ 0 → n ≤ 16
@@ -80,15 +69,15 @@ module _ (ds : List Device) (driver own : ℕ) where
       go true = ap (λ (xs : List Device). soundRefusal (allSound xs)) (take-length ds)
       go false = refl
 
-  -- the numbers after the first are 0
-  later : callRefusal ds driver own ≡ 0 → (driverRefusal n driver ≡ 0) × (firstOf (own ∷ soundRefusal (allSound ds) ∷ []) ≡ 0)
-  later z = first-zero (driverRefusal n driver) (own ∷ soundRefusal (allSound ds) ∷ []) (first-zero (chainRefusal n) (driverRefusal n driver ∷ own ∷ soundRefusal (allSound ds) ∷ []) z .1)
+  -- the numbers of its tests are 0
+  each : callRefusal ds driver own ≡ 0 → (k : ℕ) → getD (chainRefusal n ∷ driverRefusal n driver ∷ own ∷ soundRefusal (allSound ds) ∷ []) k 0 ≡ 0
+  each = each-zero (chainRefusal n ∷ driverRefusal n driver ∷ own ∷ soundRefusal (allSound ds) ∷ [])
 
   pub own-zero : callRefusal ds driver own ≡ 0 → own ≡ 0
-  own-zero z = first-zero own (soundRefusal (allSound ds) ∷ []) (later z .1) .0
+  own-zero z = each z 2
 
   pub in-range : callRefusal ds driver own ≡ 0 → (1 ≤ driver) × (driver ≤ n)
-  in-range z = driver-there n driver (later z .0)
+  in-range z = driver-there n driver (each z 1)
 
 -- ---- the outcome
 module _ (ds : List Device) (j : ℕ) (st : Step) where

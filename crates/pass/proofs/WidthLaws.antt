@@ -2,7 +2,8 @@
 --     widths-start, widths-more, all-start, all-more      the records one by one
 --     fit-all                                             a pass over records whose bytes are bytes
 -- Assumes nothing.
-use Rattle.ground.proofs.Names.{ℕ, _+_, _/_, _%_, _^_, _<_, add-one, decLt, arith, Bool, true, false, _&&_, List, [], _∷_, _++_, _≡_, refl, sym, ap, ap₂, _∙_, bitOr, or-lt, or-add-and, and-le-l, and-le-r, or-shr, or-mod, ltb, length, getD, take, take-suc, lt-ltb, le-ltb}
+use Rattle.ground.proofs.Names.{ℕ, _+_, _/_, _%_, _^_, _<_, add-one, decLt, arith, Bool, true, false, _&&_, and-assoc, List, [], _∷_, _++_, _≡_, refl, sym, ap, ap₂, _∙_, bitOr, or-lt, or-add-and, and-le-l, and-le-r, or-shr, or-mod, ltb, length, getD, take, take-suc, lt-ltb, le-ltb}
+use mathlib.Core.Bool.{and-true}
 use Rattle.device.specs.PowerUp.{powerUp}
 use Rattle.device.specs.Sound.{soundOf}
 use Rattle.device.specs.declared.Device.{Device}
@@ -92,29 +93,16 @@ module _ (w : Widths) (d : Device) (y : Bytes d) where
   end-byte j k v e = or-byte j k (w .ends) (endBytes d) v e
 
   -- which byte is which field
-  global-is : firstBytes d / 1 % 256 ≡ d .registers .controls .global
-  global-is = omega (arith, y .global, y .limit, y .gpio, y .ports, y .test, y .types, y .i, y .e)
+  firsts : (firstBytes d / 1 % 256 ≡ d .registers .controls .global)
+      × (firstBytes d / 256 % 256 ≡ d .registers .controls .limit)
+      × (firstBytes d / 65536 % 256 ≡ d .registers .controls .gpio)
+      × (firstBytes d / 4294967296 % 256 ≡ d .registers .controls .test)
+      × (firstBytes d / 281474976710656 % 256 ≡ d .registers .config .i)
+      × (firstBytes d / 72057594037927936 % 256 ≡ d .registers .config .e)
+  firsts = omega (arith, y)
 
-  limit-is : firstBytes d / 256 % 256 ≡ d .registers .controls .limit
-  limit-is = omega (arith, y .global, y .limit, y .gpio, y .ports, y .test, y .types, y .i, y .e)
-
-  gpio-is : firstBytes d / 65536 % 256 ≡ d .registers .controls .gpio
-  gpio-is = omega (arith, y .global, y .limit, y .gpio, y .ports, y .test, y .types, y .i, y .e)
-
-  test-is : firstBytes d / 4294967296 % 256 ≡ d .registers .controls .test
-  test-is = omega (arith, y .global, y .limit, y .gpio, y .ports, y .test, y .types, y .i, y .e)
-
-  i-is : firstBytes d / 281474976710656 % 256 ≡ d .registers .config .i
-  i-is = omega (arith, y .global, y .limit, y .gpio, y .ports, y .test, y .types, y .i, y .e)
-
-  e-is : firstBytes d / 72057594037927936 % 256 ≡ d .registers .config .e
-  e-is = omega (arith, y .global, y .limit, y .gpio, y .ports, y .test, y .types, y .i, y .e)
-
-  b-is : lastBytes d / 1 % 256 ≡ d .registers .config .b
-  b-is = omega (arith, y .b, y .s)
-
-  s-is : lastBytes d / 256 % 256 ≡ d .registers .config .s
-  s-is = omega (arith, y .b, y .s)
+  lasts : (lastBytes d / 1 % 256 ≡ d .registers .config .b) × (lastBytes d / 256 % 256 ≡ d .registers .config .s)
+  lasts = omega (arith, y)
 
   mark-is : endBytes d / 1 % 256 ≡ d .«answer_mark»
   mark-is = omega (arith, y .mark, y .command)
@@ -126,8 +114,8 @@ module _ (w : Widths) (d : Device) (y : Bytes d) where
   fit-more =
       let c = d .registers .controls in
       let f = d .registers .config in
-      let controls = cross (cross (cross (first-byte 0 4 (c .global) global-is) (first-byte 8 3 (c .limit) limit-is)) (first-byte 16 5 (c .gpio) gpio-is)) (first-byte 32 1 (c .test) test-is) in
-      let config = cross (cross (cross (first-byte 48 1 (f .i) i-is) (first-byte 56 1 (f .e) e-is)) (last-byte 0 1 (f .b) b-is)) (last-byte 8 1 (f .s) s-is) in
+      let controls = cross (cross (cross (first-byte 0 4 (c .global) (firsts .0)) (first-byte 8 3 (c .limit) (firsts .1))) (first-byte 16 5 (c .gpio) (firsts .2))) (first-byte 32 1 (c .test) (firsts .3)) in
+      let config = cross (cross (cross (first-byte 48 1 (f .i) (firsts .4)) (first-byte 56 1 (f .e) (firsts .5))) (last-byte 0 1 (f .b) (lasts .0))) (last-byte 8 1 (f .s) (lasts .1)) in
       let keys = or-small 1 (w .interrupt) (d .registers .keys .interrupt) in
       let pins = or-small 5 (w .pins) (d .registers .pins) in
       let blink = greater-small 4000000 (w .blink) (d .registers .blink) in
@@ -137,16 +125,8 @@ module _ (w : Widths) (d : Device) (y : Bytes d) where
 -- ---- all records
 fit-of : (w : Widths) (ds : List Device) → AllBytes ds → fit (widthsOf w ds) ≡ fit w && allSound ds
 unfolding widthsOf allSound AllBytes
-fit-of w [] y = go (fit w)
-  where
-    go : (b : Bool) → b ≡ b && true
-    go true = refl
-    go false = refl
-fit-of w (d ∷ ds) y = fit-of (widthsWith w d) ds (y .1) ∙ ap (λ (t : Bool). t && allSound ds) (fit-more w d (y .0)) ∙ go (fit w) (soundOf d)
-  where
-    go : (a b : Bool) → a && b && allSound ds ≡ a && (b && allSound ds)
-    go true b = refl
-    go false b = refl
+fit-of w [] y = sym (and-true (fit w))
+fit-of w (d ∷ ds) y = fit-of (widthsWith w d) ds (y .1) ∙ rw (fit-more w d (y .0), and-assoc (fit w) (soundOf d) (allSound ds))
 
 pub fit-all : (ds : List Device) → AllBytes ds → fit (widthsOf noWidths ds) ≡ allSound ds
 fit-all ds y = fit-of noWidths ds y

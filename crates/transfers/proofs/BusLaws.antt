@@ -7,10 +7,10 @@
 -- Assumes nothing.
 use Rattle.ground.proofs.Names.{ℕ, zero, suc, _-_, _≤_, _<_, arith, Bool, true, false, _&&_, List, [], _∷_, _≡_, refl, ap, _∙_, eqb, leb, ltb, length, getD, set, take, eqb-true, le-leb, leb-true, ltb-true, if, and-left, and-right, passed}
 use Rattle.refusals.specs.Refusals.{driverRefusal, soundRefusal, clashRefusal, addressRefusal, firstOf}
-use Rattle.refusals.proofs.RefusalLaws.{first-zero}
 use Rattle.device.specs.PowerUp.{powerUp}
 use Rattle.device.specs.declared.Device.{Device}
 use Rattle.calls.specs.CallRefusals.{allSound}
+use Rattle.calls.proofs.Accepted.{each-zero}
 use Rattle.bus.specs.declared.Bus.{Bus}
 use Rattle.bus.specs.Straps.{matched, distinct, sevenBits}
 use Rattle.bus.specs.States.{Use, command, writing, reading, State, idle, slave, unmatched, transfer, freeAt, useAt, stateOf, busOf, soundBus}
@@ -18,6 +18,7 @@ use Rattle.bus.specs.BusCalls.{start, put, get, stop}
 use Rattle.bus.specs.BusRefusals.{wireRefusal}
 use Rattle.bus.specs.BusServed.{given, asked, served, nobody, putReply, askedReply, givenBack}
 use Rattle.bus.specs.BusOutcome.{number, busAfter, partsAfter, reply, BusOutcome, busOutcome}
+use Rattle.bus.proofs.States.{free-all}
 use Rattle.bus.proofs.Bytes.{state-part, state-free, bus-state}
 use Rattle.pass.specs.Found.{callRefusal}
 use Rattle.transfers.specs.Transfers.{refusalFrom, moved, partOpen, putAnswer, writeFree, readFree, readOpen}
@@ -57,8 +58,8 @@ module _ (ds : List Device) (b : Bus) (σ : List ℕ) where
   found-sound : foundFrom ≡ 0 → (b .part ≤ n) × (b .phase < 3)
   unfolding refusalFrom
   found-sound z =
-      let later = first-zero (callRefusal ds 1 0) (soundRefusal (soundBus n b) ∷ clashRefusal (distinct (take n σ)) ∷ addressRefusal (sevenBits (take n σ)) ∷ []) z .1 in
-      let t : soundBus n b ≡ true = passed (soundBus n b) 0 6 (first-zero (soundRefusal (soundBus n b)) (clashRefusal (distinct (take n σ)) ∷ addressRefusal (sevenBits (take n σ)) ∷ []) later .0) .0 in
+      let each = each-zero (callRefusal ds 1 0 ∷ soundRefusal (soundBus n b) ∷ clashRefusal (distinct (take n σ)) ∷ addressRefusal (sevenBits (take n σ)) ∷ []) z in
+      let t : soundBus n b ≡ true = passed (soundBus n b) 0 6 (each 1) .0 in
       (leb-true (b .part) n (and-left (leb (b .part) n) (ltb (b .phase) 3) t), ltb-true (b .phase) 3 (and-right (leb (b .part) n) (ltb (b .phase) 3) t))
 
   -- ---- a start and a stop
@@ -118,20 +119,10 @@ module _ (ds : List Device) (b : Bus) (σ : List ℕ) where
 
   -- where no transfer is open, a byte changes no record
   put-free : (v p : ℕ) → served (put v) (freeAt p) ds ≡ ds
-  put-free v p = go (eqb p 0) (eqb p 1)
-    where
-      go : (t u : Bool) → served (put v) (if t idle (if u slave unmatched)) ds ≡ ds
-      go true u = refl
-      go false true = refl
-      go false false = refl
+  put-free v p = free-all (λ s. served (put v) s ds ≡ ds) refl refl refl p
 
   get-free : (p : ℕ) → (served get (freeAt p) ds ≡ ds) × (givenBack n σ get (freeAt p) ds ≡ nobody)
-  get-free p = go (eqb p 0) (eqb p 1)
-    where
-      go : (t u : Bool) → (served get (if t idle (if u slave unmatched)) ds ≡ ds) × (givenBack n σ get (if t idle (if u slave unmatched)) ds ≡ nobody)
-      go true u = (refl, refl)
-      go false true = (refl, refl)
-      go false false = (refl, refl)
+  get-free p = free-all (λ s. (served get s ds ≡ ds) × (givenBack n σ get s ds ≡ nobody)) (refl, refl) (refl, refl) (refl, refl) p
 
   pub write-free : (v : ℕ) → reach ≡ 0 → busOutcome σ (put v) b ds ≡ answeredTo (writeFree (callRefusal ds 1 0) n b σ v) ds
   unfolding number busAfter partsAfter reply

@@ -17,12 +17,12 @@ loop-holds c = (omega arith, refl)
 returns : tie.Need-returns Inv-loop μ-loop
 returns c =
     let l : length (c .before .before .before .before .before .args .straps .addresses) ≡ 16 = search needs in
-    sym (c .before .before .before .loop .inv .1 ∙ distinct-next (c .before .before .before .before .before .args .n) (c .before .before .before .before .before .args .straps .addresses) (c .before .before .before .loop .i) (c .before .before .loop-test .taken) (omega arith) ∙ rw (sym (c .before .later-none .ensures) ∙ not-true _ (c .if1 .taken)))
+    sym (c .before .before .before .loop .inv .1 ∙ distinct-next _ (c .before .before .before .before .before .args .straps .addresses) _ (c .before .before .loop-test .taken) (omega arith) ∙ rw (sym (c .before .later-none .ensures) ∙ not-true _ (c .if1 .taken)))
 
 loop-again : tie.Need-loop-again Inv-loop μ-loop
 loop-again c =
     let l : length (c .before .before .before .before .before .args .straps .addresses) ≡ 16 = search needs in
-    (omega arith, c .before .before .before .loop .inv .1 ∙ distinct-next (c .before .before .before .before .before .args .n) (c .before .before .before .before .before .args .straps .addresses) (c .before .before .before .loop .i) (c .before .before .loop-test .taken) (omega arith) ∙ rw (sym (c .before .later-none .ensures) ∙ not-false _ (c .if1 .left)))
+    (omega arith, c .before .before .before .loop .inv .1 ∙ distinct-next _ (c .before .before .before .before .before .args .straps .addresses) _ (c .before .before .loop-test .taken) (omega arith) ∙ rw (sym (c .before .later-none .ensures) ∙ not-false _ (c .if1 .left)))
 
 returns-2 : tie.Need-returns-2 Inv-loop μ-loop
 returns-2 c =

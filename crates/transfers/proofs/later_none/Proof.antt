@@ -17,12 +17,12 @@ loop-holds c = (omega arith, refl)
 returns : tie.Need-returns Inv-loop μ-loop
 returns c =
     let l : length (c .before .before .before .args .t1) ≡ 16 = search needs in
-    sym (c .before .before .loop .inv .1 ∙ none-found (c .before .before .before .args .n) (c .before .before .before .args .t1) (c .before .before .before .args .a) (c .before .before .loop .j) (c .before .loop-test .taken) (omega arith) (c .if1 .taken))
+    sym (c .before .before .loop .inv .1 ∙ none-found _ (c .before .before .before .args .t1) _ _ (c .before .loop-test .taken) (omega arith) (c .if1 .taken))
 
 loop-again : tie.Need-loop-again Inv-loop μ-loop
 loop-again c =
     let l : length (c .before .before .before .args .t1) ≡ 16 = search needs in
-    (omega arith, c .before .before .loop .inv .1 ∙ none-next (c .before .before .before .args .n) (c .before .before .before .args .t1) (c .before .before .before .args .a) (c .before .before .loop .j) (c .before .loop-test .taken) (omega arith) (c .if1 .left))
+    (omega arith, c .before .before .loop .inv .1 ∙ none-next _ (c .before .before .before .args .t1) _ _ (c .before .loop-test .taken) (omega arith) (c .if1 .left))
 
 returns-2 : tie.Need-returns-2 Inv-loop μ-loop
 returns-2 c =

@@ -17,12 +17,12 @@ loop-holds c = (omega arith, place-first (c .before .args .n) (c .before .args .
 returns : tie.Need-returns Inv-loop μ-loop
 returns c =
     let l : length (c .before .before .before .before .args .straps .addresses) ≡ 16 = search needs in
-    sym (c .before .before .loop .inv .1 ∙ place-found (c .before .before .before .before .args .n) (c .before .before .before .before .args .straps .addresses) (c .before .before .before .before .args .byte / 2) (c .before .before .loop .i) (c .before .loop-test .taken) (omega arith) (c .if1 .taken))
+    sym (c .before .before .loop .inv .1 ∙ place-found _ (c .before .before .before .before .args .straps .addresses) _ _ (c .before .loop-test .taken) (omega arith) (c .if1 .taken))
 
 loop-again : tie.Need-loop-again Inv-loop μ-loop
 loop-again c =
     let l : length (c .before .before .before .before .args .straps .addresses) ≡ 16 = search needs in
-    (omega arith, c .before .before .loop .inv .1 ∙ place-next (c .before .before .before .before .args .n) (c .before .before .before .before .args .straps .addresses) (c .before .before .before .before .args .byte / 2) (c .before .before .loop .i) (c .before .loop-test .taken) (omega arith) (c .if1 .left))
+    (omega arith, c .before .before .loop .inv .1 ∙ place-next _ (c .before .before .before .before .args .straps .addresses) _ _ (c .before .loop-test .taken) (omega arith) (c .if1 .left))
 
 returns-2 : tie.Need-returns-2 Inv-loop μ-loop
 returns-2 c =

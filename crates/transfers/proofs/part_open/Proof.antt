@@ -5,7 +5,7 @@ use Rattle.transfers.proofs.part_open.Statement.{statement}
 use Rattle.transfers.proofs.part_open.Tie as tie
 
 returns : tie.Need-returns
-returns c = part-none (c .before .before .args .early) (c .before .before .args .n) (c .before .before .args .bus) (c .before .before .args .straps .addresses) (c .if1 .taken)
+returns c = part-none _ _ _ _ (c .if1 .taken)
 
 returns-2 : tie.Need-returns-2
 returns-2 c = simp (← c .before .refusal .ensures) (search tests)

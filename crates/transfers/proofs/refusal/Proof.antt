@@ -5,28 +5,28 @@ use Rattle.transfers.proofs.refusal.Statement.{statement}
 use Rattle.transfers.proofs.refusal.Tie as tie
 
 returns : tie.Need-returns
-returns c = early-decides (c .before .args .early) (c .before .args .n) (c .before .args .bus) (c .before .args .straps .addresses) (c .if1 .taken)
+returns c = early-decides _ _ _ _ (c .if1 .taken)
 
 returns-2 : tie.Need-returns-2
-returns-2 c = part-decides (c .before .before .before .args .early) (c .before .before .before .args .n) (c .before .before .before .args .bus) (c .before .before .before .args .straps .addresses) (search needs) (c .if2 .taken)
+returns-2 c = part-decides _ _ _ _ (search needs) (c .if2 .taken)
 
 returns-3 : tie.Need-returns-3
-returns-3 c = phase-decides (c .before .before .before .before .before .args .early) (c .before .before .before .before .before .args .n) (c .before .before .before .before .before .args .bus) (c .before .before .before .before .before .args .straps .addresses) (search needs) (search needs) (c .if3 .taken)
+returns-3 c = phase-decides _ _ _ _ (search needs) (search needs) (c .if3 .taken)
 
 returns-4 : tie.Need-returns-4
 returns-4 c =
     let l : length (c .before .before .before .before .before .before .before .before .args .straps .addresses) ≡ 16 = search needs in
-    straps-decide (c .before .before .before .before .before .before .before .before .args .early) (c .before .before .before .before .before .before .before .before .args .n) (c .before .before .before .before .before .before .before .before .args .bus) (c .before .before .before .before .before .before .before .before .args .straps .addresses) l (search needs) (search needs) (search needs) _ (c .before .before .few .ensures .0) false _ (sym (c .before .distinct .ensures) ∙ not-true _ (c .if4 .taken)) refl
+    straps-decide _ _ _ _ l (search needs) (search needs) (search needs) _ (c .before .before .few .ensures .0) false _ (sym (c .before .distinct .ensures) ∙ not-true _ (c .if4 .taken)) refl
 
 returns-5 : tie.Need-returns-5
 returns-5 c =
     let l : length (c .before .before .before .before .before .before .before .before .before .before .args .straps .addresses) ≡ 16 = search needs in
-    straps-decide (c .before .before .before .before .before .before .before .before .before .before .args .early) (c .before .before .before .before .before .before .before .before .before .before .args .n) (c .before .before .before .before .before .before .before .before .before .before .args .bus) (c .before .before .before .before .before .before .before .before .before .before .args .straps .addresses) l (search needs) (search needs) (search needs) _ (c .before .before .before .before .few .ensures .0) true false (sym (c .before .before .before .distinct .ensures) ∙ not-false _ (c .before .before .if4 .left)) (sym (c .before .seven-bits .ensures) ∙ not-true _ (c .if5 .taken))
+    straps-decide _ _ _ _ l (search needs) (search needs) (search needs) _ (c .before .before .before .before .few .ensures .0) true false (sym (c .before .before .before .distinct .ensures) ∙ not-false _ (c .before .before .if4 .left)) (sym (c .before .seven-bits .ensures) ∙ not-true _ (c .if5 .taken))
 
 returns-6 : tie.Need-returns-6
 returns-6 c =
     let l : length (c .before .before .before .before .before .before .before .before .before .before .args .straps .addresses) ≡ 16 = search needs in
-    straps-decide (c .before .before .before .before .before .before .before .before .before .before .args .early) (c .before .before .before .before .before .before .before .before .before .before .args .n) (c .before .before .before .before .before .before .before .before .before .before .args .bus) (c .before .before .before .before .before .before .before .before .before .before .args .straps .addresses) l (search needs) (search needs) (search needs) _ (c .before .before .before .before .few .ensures .0) true true (sym (c .before .before .before .distinct .ensures) ∙ not-false _ (c .before .before .if4 .left)) (sym (c .before .seven-bits .ensures) ∙ not-false _ (c .if5 .left))
+    straps-decide _ _ _ _ l (search needs) (search needs) (search needs) _ (c .before .before .before .before .few .ensures .0) true true (sym (c .before .before .before .distinct .ensures) ∙ not-false _ (c .before .before .if4 .left)) (sym (c .before .seven-bits .ensures) ∙ not-false _ (c .if5 .left))
 
 pub refusal-spec : {M : Type 1} → statement M
 refusal-spec =

@@ -17,12 +17,12 @@ loop-holds c = (omega arith, refl)
 returns : tie.Need-returns Inv-loop μ-loop
 returns c =
     let l : length (c .before .before .before .before .args .straps .addresses) ≡ 16 = search needs in
-    sym (c .before .before .loop .inv .1 ∙ seven-next (c .before .before .before .before .args .n) (c .before .before .before .before .args .straps .addresses) (c .before .before .loop .i) (c .before .loop-test .taken) (omega arith) ∙ rw (le-ltb (getD (c .before .before .before .before .args .straps .addresses) (c .before .before .loop .i) 0) 128 (c .if1 .taken)))
+    sym (c .before .before .loop .inv .1 ∙ seven-next _ (c .before .before .before .before .args .straps .addresses) _ (c .before .loop-test .taken) (omega arith) ∙ rw (le-ltb (getD (c .before .before .before .before .args .straps .addresses) (c .before .before .loop .i) 0) 128 (c .if1 .taken)))
 
 loop-again : tie.Need-loop-again Inv-loop μ-loop
 loop-again c =
     let l : length (c .before .before .before .before .args .straps .addresses) ≡ 16 = search needs in
-    (omega arith, c .before .before .loop .inv .1 ∙ seven-next (c .before .before .before .before .args .n) (c .before .before .before .before .args .straps .addresses) (c .before .before .loop .i) (c .before .loop-test .taken) (omega arith) ∙ rw (lt-ltb (getD (c .before .before .before .before .args .straps .addresses) (c .before .before .loop .i) 0) 128 (omega (arith, c .if1 .left))))
+    (omega arith, c .before .before .loop .inv .1 ∙ seven-next _ (c .before .before .before .before .args .straps .addresses) _ (c .before .loop-test .taken) (omega arith) ∙ rw (lt-ltb (getD (c .before .before .before .before .args .straps .addresses) (c .before .before .loop .i) 0) 128 (omega (arith, c .if1 .left))))
 
 returns-2 : tie.Need-returns-2 Inv-loop μ-loop
 returns-2 c =

@@ -8,10 +8,10 @@ returns : tie.Need-returns
 returns c = simp (c .answered .ensures, c .before .if1 .taken)
 
 returns-2 : tie.Need-returns-2
-returns-2 c = c .answered2 .ensures ∙ sym (slave-named (c .before .before .before .args .m) (c .before .before .before .args .byte) (c .before .before .if1 .left) ∙ rw (eq-eqb (c .before .before .before .args .byte % 2) 1 (c .before .if2 .taken)))
+returns-2 c = c .answered2 .ensures ∙ sym (slave-named _ _ (c .before .before .if1 .left) ∙ rw (eq-eqb (c .before .before .before .args .byte % 2) 1 (c .before .if2 .taken)))
 
 returns-3 : tie.Need-returns-3
-returns-3 c = c .answered3 .ensures ∙ sym (slave-named (c .before .before .before .args .m) (c .before .before .before .args .byte) (c .before .before .if1 .left) ∙ rw (ne-eqb (c .before .before .before .args .byte % 2) 1 (c .before .if2 .left)))
+returns-3 c = c .answered3 .ensures ∙ sym (slave-named _ _ (c .before .before .if1 .left) ∙ rw (ne-eqb (c .before .before .before .args .byte % 2) 1 (c .before .if2 .left)))
 
 pub slave-answer-spec : {M : Type 1} → statement M
 slave-answer-spec =

@@ -1,6 +1,6 @@
 -- The two ways of an access: by whole words, and by one line of bytes.
 -- Assumes nothing.
-use Rattle.ground.proofs.Names.{ℕ, _+_, _-_, _*_, _≤_, arith, Bool, List, _++_, _≡_, sym, ap, _∙_, length, take, drop, length-append, drop-append-add, drop-drop, take-append-add, take-at}
+use Rattle.ground.proofs.Names.{ℕ, _+_, _-_, _*_, _≤_, zero-add, arith, List, _++_, _≡_, sym, _∙_, length, take, drop, length-append, drop-append-add, drop-drop, take-append-add, take-at}
 use Rattle.refusals.specs.Refusals.{bytesFor}
 use Rattle.wire.specs.Bits.{unpack, pack}
 use Rattle.wire.specs.Wire.{words, wire, answer, shifted}
@@ -27,12 +27,9 @@ module _ (ws sent : List ℕ) (n c : ℕ) (count : length ws ≡ n) (enough : by
   -- at least 16 clocks for each driver: the new words are bits that were sent
   pub sent-words : 16 * n ≤ c → shifted ws sent c ≡ words n (drop (c - 16 * n) (unpack sent))
   sent-words h =
-      let old : List Bool = unpack (wordBytes ws) in
-      let l : length old ≡ 16 * n = rw (length-unpack, length-wordBytes) (omega (arith, count)) in
-      let e : c ≡ length old + (c - 16 * n) = omega (arith, h, l) in
-      let d : drop c (unpack line) ≡ drop (c - 16 * n) (unpack sent) =
-      rw unpack-append (ap (λ (k : ℕ). drop k (old ++ unpack sent)) e ∙ drop-append-add old (unpack sent) (c - 16 * n)) in
-      shifted-from ws sent line c (wire-line ws sent c) (omega (arith, count, enough, length-line)) ∙ rw (count, d)
+      let e : length (unpack (wordBytes ws)) + (c - 16 * n) ≡ c = rw (length-unpack, length-wordBytes) (omega arith) in
+      let d = rw e at (drop-append-add (unpack (wordBytes ws)) (unpack sent) (c - 16 * n)) in
+      shifted-from ws sent line c (wire-line ws sent c) (omega (arith, length-line)) ∙ rw (count, unpack-append, d)
 
   -- and the answer is the old words' bytes, with sent bytes after them
   pub whole-answer : 16 * n ≤ c → (room old all : List ℕ) → old ≡ wordBytes ws ++ drop (2 * n) room
@@ -41,20 +38,18 @@ module _ (ws sent : List ℕ) (n c : ℕ) (count : length ws ≡ n) (enough : by
   whole-answer h room old all p q =
       let m : 2 * n + (bytesFor c - 2 * n) ≡ bytesFor c = omega arith in
       rw (line-part (bytesFor c - 2 * n) room old all p q, m, answer-from ws sent line c (wire-line ws sent c))
-      (clear-front c line (drop (bytesFor c) room) (omega (arith, enough, length-line)))
+      (clear-front c line (drop (bytesFor c) room) (omega (arith, length-line)))
 
   -- fewer clocks: a local row that begins as the line gives both
   module _ (zeros old all : List ℕ) (p : old ≡ wordBytes ws ++ drop (2 * n) zeros) (q : all ≡ take (2 * n) old ++ take (bytesFor c) sent ++ drop (2 * n + bytesFor c) old) where
     begins : wire ws sent c ≡ take (c + 16 * length ws) (unpack all)
     begins =
         wire-line ws sent c
-        ∙ sym (rw (line-part (bytesFor c) zeros old all p q) (cut-bytes (2 * n + bytesFor c) (c + 16 * length ws) line _ (omega (arith, enough, length-line)) (omega (arith, count))))
+        ∙ sym (rw (line-part (bytesFor c) zeros old all p q) (cut-bytes (2 * n + bytesFor c) (c + 16 * length ws) line _ (omega (arith, length-line)) (omega arith)))
 
     pub line-words : c + 16 * n ≤ 8 * length all → shifted ws sent c ≡ words n (drop c (unpack all))
-    line-words h = shifted-from ws sent all c begins (omega (arith, count, h)) ∙ rw count
+    line-words h = shifted-from ws sent all c begins (omega arith) ∙ rw count
 
     pub line-answer : bytesFor c ≤ length all → (room first : List ℕ) → first ≡ take 0 room ++ take (bytesFor c) all ++ drop (0 + bytesFor c) room
         → pack (take c (unpack first)) ++ drop (bytesFor c) first ≡ answer ws sent c ++ drop (bytesFor c) room
-    line-answer h room first e =
-        let z : 0 + bytesFor c ≡ bytesFor c = omega arith in
-        rw (e, z, answer-from ws sent all c begins) (clear-front c all (drop (bytesFor c) room) h)
+    line-answer h room first e = rw (e, zero-add, answer-from ws sent all c begins) (clear-front c all (drop (bytesFor c) room) h)

@@ -3,18 +3,12 @@
 use Rattle.ground.proofs.Names.{ℕ, _<_, _≤_, arith, true, false, or-true, [], _∷_, map, _≡_, refl, lt-ltb, le-ltb, odd}
 use Rattle.device.specs.declared.Device.{Device}
 use Rattle.brightness.specs.Dark.{testOn, dark}
-use Rattle.brightness.specs.Brightness.{ownNibble, sixteenths, ruledTo, cathodeOf, brightnessOf, rulerOf, rulerCode, brightnessAnswer}
+use Rattle.brightness.specs.Brightness.{ownNibble, sixteenths, cathodeOf, brightnessOf, rulerOf, brightnessAnswer}
 use Rattle.brightness.specs.declared.Ruler.the-variants.{Global, Own, Test}
 use Rattle.brightness.specs.Tables.{sixteenNumbers, table26, table27, BrightnessTables}
 
 to-the-limit : (x : Device) (d : ℕ) → testOn x ≡ false → odd (x .registers .config .s) ≡ true → d ≤ x .registers .controls .limit → dark x d ≡ false
 to-the-limit x d t s h = rw (t, s) (le-ltb (x .registers .controls .limit) d h)
-
-above-the-limit : (x : Device) (d : ℕ) → testOn x ≡ false → x .registers .controls .limit < d → dark x d ≡ true
-above-the-limit x d t h = rw (t, lt-ltb (x .registers .controls .limit) d h, or-true)
-
-in-shutdown : (x : Device) (d : ℕ) → testOn x ≡ false → odd (x .registers .config .s) ≡ false → dark x d ≡ true
-in-shutdown x d t s = rw (t, s)
 
 lit-in-test : (x : Device) (d : ℕ) → testOn x ≡ true → dark x d ≡ false
 lit-in-test x d t = rw t
@@ -31,9 +25,6 @@ own-nibbles = refl
 dark-digit : (x : Device) (i : ℕ) → dark x (cathodeOf i) ≡ true → brightnessOf x i ≡ 0
 dark-digit x i d = rw d
 
-lit-digit : (x : Device) (i : ℕ) → dark x (cathodeOf i) ≡ false → brightnessOf x i ≡ ruledTo x i
-lit-digit x i d = rw d
-
 cathodes : map cathodeOf sixteenNumbers ≡ 0 ∷ 1 ∷ 2 ∷ 3 ∷ 4 ∷ 5 ∷ 6 ∷ 7 ∷ 0 ∷ 1 ∷ 2 ∷ 3 ∷ 4 ∷ 5 ∷ 6 ∷ 7 ∷ []
 cathodes = refl
 
@@ -46,37 +37,26 @@ own-rules x t i = rw (t, i)
 global-rules : (x : Device) → testOn x ≡ false → odd (x .registers .config .i) ≡ false → rulerOf x ≡ Global
 global-rules x t i = rw (t, i)
 
-by-nibbles : (x y : Device) (i : ℕ)
-    → x .registers .controls .test ≡ y .registers .controls .test
-    → x .registers .config .i ≡ y .registers .config .i
-    → x .registers .controls .global ≡ y .registers .controls .global
-    → x .registers .intensities ≡ y .registers .intensities
-    → ruledTo x i ≡ ruledTo y i
-by-nibbles x y i t c g n = simp (t, c, g, n)
-
 refused : (x : Device) (i : ℕ) → 15 < i → brightnessAnswer x i ≡ record { number = 6; sixteenths = 0; ruler = 0 }
 refused x i h = rw (le-ltb i 16 (omega arith))
-
-answered : (x : Device) (i : ℕ) → i ≤ 15 → brightnessAnswer x i ≡ record { number = 0; sixteenths = brightnessOf x i; ruler = rulerCode (rulerOf x) }
-answered x i h = rw (lt-ltb i 16 (omega arith))
 
 pub tabled : BrightnessTables
 tabled =
     record {
       to-the-limit = to-the-limit;
-      above-the-limit = above-the-limit;
-      in-shutdown = in-shutdown;
+      above-the-limit = λ x d t h. rw (t, lt-ltb (x .registers .controls .limit) d h, or-true);
+      in-shutdown = λ x d t s. rw (t, s);
       lit-in-test = lit-in-test;
       seven-in-test = seven-in-test;
       duty-cycles = duty-cycles;
       own-nibbles = own-nibbles;
       dark-digit = dark-digit;
-      lit-digit = lit-digit;
+      lit-digit = λ x i d. rw d;
       cathodes = cathodes;
       test-rules = test-rules;
       own-rules = own-rules;
       global-rules = global-rules;
-      by-nibbles = by-nibbles;
+      by-nibbles = λ x y i t c g n. simp (t, c, g, n);
       refused = refused;
-      answered = answered;
+      answered = λ x i h. rw (lt-ltb i 16 (omega arith));
     }

@@ -4,15 +4,16 @@
 --     copies           after that the element is copied into a local
 -- Assumes `Given`.
 use Rattle.ground.proofs.Names.{ℕ, _*_, _<_, _^_, _≡_, refl, sym, subst, List, [], _∷_, Holds, ltb, length, getD, set, scaled-fits}
-use Rattle.lent.proofs.Logic.{URA, Ty, tyInt, w64, Place, Operand, Body, seq, assign, copy, int, rvOpd, op2, mul, offset, unsigned, vint, vptr, WT, hasTy, Share, fat, Heap, Env, Spot, Calls, Loops, Atoms, Given, Item, ‵, Goal, Post, runs, Seq, Step, step, _$_, move, drop, rewrite, Writes, Finds, Opd, look-raw, lit, load, of-opd, bin, assigns, Is, shows, cellAt, mem, shares, row, lies, place-is, others, elem-out, elem-back, elem-put, owned}
+use Rattle.lent.proofs.Logic.{URA, Ty, tyInt, w64, Place, Operand, Body, seq, assign, copy, int, rvOpd, op2, mul, offset, unsigned, vint, vptr, WT, hasTy, Share, fat, Heap, Env, Spot, Calls, Loops, Atoms, Given, Item, ‵, Goal, Post, runs, Seq, Step, step, _$_, move, drop, rewrite, Writes, Finds, Opd, look-raw, lit, load, of-opd, bin, assigns, Is, Copy, shows, cellAt, mem, shares, row, lies, place-is, others, elem-out, elem-back, elem-put, owned}
 use mir.Raw.{raw}
 use Rattle.lent.proofs.Walk.{Data}
 
--- the values of D take s bytes
+-- the values of D take s bytes, and can be copied
 pub record Sized (D : Data) (s : ℕ) : Type 2 where
   pub one : D .row .mir ≡ D .ty ∷ []
   pub size : mem (D .row) .size ≡ s
   pub small : Holds (ltb s (2 ^ 64))
+  pub copied : {M : Type 1} (𝓤 : URA M) (H : Heap 𝓤) (A : Atoms 𝓤) (W : Given 𝓤 H A) → Copy 𝓤 H A (D .row)
 
 module _ {M : Type 1} {𝓤 : URA M} {H : Heap 𝓤} {A : Atoms 𝓤} {K : Type 0} {W : Given 𝓤 H A} {E : Env 𝓤 H} {C : Calls 𝓤 H} {Λ : Loops 𝓤 H} {p : Post 𝓤 H} where
   pub points : K → {Γ Γ₁ Γ₂ : List (Item 𝓤)} (s : ℕ) → Holds (ltb s (2 ^ 64)) → (i n b o : ℕ) → i < n → n * s < 2 ^ 63 → {x y : Operand} {at to : Place} {sp sp′ : Spot 𝓤 H} {rest : Body}

@@ -2,9 +2,9 @@ pub mod Logic
 pub mod Walk
 pub mod Locals
 pub mod Elements
+pub mod Slices
 pub mod Places
 pub mod Parts
 pub mod Records
-pub mod Chain
 pub mod Params
 pub mod Arrays

@@ -1,7 +1,7 @@
 -- The types that the walks use.
 -- Assumes nothing.
 use Rattle.ground.proofs.Names.{ℕ, _+_, _<_, _^_, refl, set, List, [], _∷_}
-use Rattle.lent.proofs.Logic.{Val, vstruct, ofList, Share, fat, Heap, Env, Atoms, URA, Given, Item, ‵, Part, whole, sub, Walks, stop, fld, Array, UInt, tyInt, tyArray, w8, w16, w32, w64, field, Is}
+use Rattle.lent.proofs.Logic.{Val, vstruct, ofList, Share, fat, Heap, Env, Atoms, URA, Given, Item, ‵, Part, whole, sub, Walks, stop, fld, Array, UInt, tyInt, tyArray, w8, w16, w32, w64, field, Is, uint-copy}
 use mir.Raw.{raw}
 use denote.Struct.Laws as LL
 use Rattle.device.specs.declared.Device.{Device}
@@ -34,14 +34,14 @@ abbrev pub device : Data
 device = rec D.the-type D′.the-laws D′.the-plain D′.the-copy
 
 pub half-sized : Sized half 2
-half-sized = record { one = refl; size = refl; small = tt }
+half-sized = record { one = refl; size = refl; small = tt; copied = λ 𝓤 H A W. uint-copy 𝓤 H A W w16 }
 
 -- the bytes of a record
 abbrev pub recordBytes : ℕ
 recordBytes = 84
 
 pub device-sized : Sized device recordBytes
-device-sized = record { one = refl; size = refl; small = tt }
+device-sized = record { one = refl; size = refl; small = tt; copied = λ 𝓤 H A W. LL.copy D.the-type D′.the-copy 𝓤 H A W }
 
 abbrev pub widths : Data
 widths = rec W.the-type W′.the-laws W′.the-plain W′.the-copy

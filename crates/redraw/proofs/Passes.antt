@@ -14,9 +14,9 @@ use Rattle.device.specs.declared.Device.{Device}
 use Rattle.pass.specs.Found.{toPass}
 use Rattle.pass.proofs.FoundLaws.{pass-below}
 use Rattle.pass.proofs.to_pass as look′
-use Rattle.lent.proofs.Records.{size, byte, device, recordBytes}
+use Rattle.lent.proofs.Records.{size, byte, device, device-sized, recordBytes}
 use Rattle.lent.proofs.Locals.{values, envOf, starts as starts-all, leaves, var, sets, lands-in, lands-over, count}
-use Rattle.lent.proofs.Chain.{chainTy, Spots, goes-over, copies-out}
+use Rattle.lent.proofs.Slices.{sharedTy, Spots, goes-over, copies-out}
 use Rattle.lent.proofs.Walk.{Data, Walk, calls-value, lands-known, leave, proves}
 use Rattle.lent.proofs.Params.{Kind, held, inners, outers, Seen, seens, Sent, values as handed, Args, sents, spelled, told, machine, Good, stays, goes, ends, fits, Had, has, sends, doubled, locals-of, operands, after, cells, env, spot-after, alloc-all, pass-all, leave-all, opds-all, FnOf, calls-kinds}
 
@@ -42,7 +42,7 @@ module _ (turn : Name) (k : ℕ) (Ks : List (Kind k)) (S : Data) (o : Operand) (
     lifetimes = suc k;
     outlives = [];
     params = after Ks 2;
-    locals = local (S .ty) valueLocal ∷ local chainTy valueLocal ∷ local (byte .ty) valueLocal ∷ (locals-of Ks ++ locals);
+    locals = local (S .ty) valueLocal ∷ local (sharedTy device (named 0)) valueLocal ∷ local (byte .ty) valueLocal ∷ (locals-of Ks ++ locals);
     body = seq (assign (place (at 0) []) (rvOpd (copy (place 1 (field 1 ∷ [])))))
         (seq (call look′.Symbol.name (copy (place 2 []) ∷ copy (place (at 0) []) ∷ []) (place (at 1) []))
         (seq (assign (place (at 2) []) (rvOpd o))
@@ -103,7 +103,7 @@ module _ (turn : Name) (k : ℕ) (Ks : List (Kind k)) (S : Data) (o : Operand) (
         alloc1 ! (λ l₀. alloc1 ! (λ l₁. alloc1 ! (λ l₂. alloc-all ! Ks (λ bs. starts-all W locals ! (λ l D dies. params1 ! $
         let E : Env 𝓤 H = envOf locals l in
         let spot : (i : ℕ) → spotOf 𝓤 H (env 𝓤 H Ks bs ++ E) (after Ks i) ≡ spotOf 𝓤 H E i = spot-after 𝓤 H Ks bs E in
-        let spots : Spots 𝓤 H ((S .ty, l₀) ∷ (chainTy, l₁) ∷ (byte .ty, l₂) ∷ (env 𝓤 H Ks bs ++ E)) 1 (at 1) (at 3) (at 4) (at 5) (at 6) (at 7) = record { at = λ j. getD (l₁ ∷ l 1 ∷ l 3 ∷ l 4 ∷ l 5 ∷ l 6 ∷ l 7 ∷ []) j 0; chain = refl; end = spot 1; count = spot 3; test = spot 4; scaled = spot 5; pointer = spot 6; copied = spot 7 } in
+        let spots : Spots 𝓤 H device (named 0) ((S .ty, l₀) ∷ (sharedTy device (named 0), l₁) ∷ (byte .ty, l₂) ∷ (env 𝓤 H Ks bs ++ E)) 1 (at 1) (at 3) (at 4) (at 5) (at 6) (at 7) = record { at = λ j. getD (l₁ ∷ l 1 ∷ l 3 ∷ l 4 ∷ l 5 ∷ l 6 ∷ l 7 ∷ []) j 0; slice = refl; end = spot 1; count = spot 3; test = spot 4; scaled = spot 5; pointer = spot 6; copied = spot 7 } in
         pass1 ! (init ! 12 refl (tt, (tt, (record { fits = is-x .0 .1 .0 }, tt)))) $ pass1 ! (init ! 10 refl (byte .typed 𝓤 H A W number (good .0))) $ move ! (9 ∷ []) $ pass-all ! κs Ks bs xs (good .1) E $
         move ! (17 ∷ []) $ fsplit ! $ move ! (1 ∷ []) $ fsplit ! $ drop ! $ use1 W Asked (sends 𝓤 H A W κs Ks xs) $ move ! (18 ∷ []) $ split ! $
         -- [the token; the other tokens; what turn asks of the parameters; what the chain owns; the parameters; the eight locals after them, from 5; that they die; _2, at 14; …; _1; …; _0; …]
@@ -111,17 +111,17 @@ module _ (turn : Name) (k : ℕ) (Ks : List (Kind k)) (S : Data) (o : Operand) (
         calls-value ! (fmOf 𝓤 H (W .laws) 𝓣) (byte ∷ size ∷ []) size (λ _. emp 𝓤) (λ a. toPass (a .0) (a .1 .0)) known-look (number, (length (x .now), tt)) (good .0, ((refl, is-x .0 .1 .0), tt)) (id⊢ 𝓤 _) (and-then ! (var ! 15 refl refl) (and-then ! (var ! 6 (spot 0) refl) (no-more !))) (λ is-m wt-m. lands-in ! 6 (spot 1) refl wt-m $
         sets ! (of-opd ! (reads (x .now) (seens (κs .1) Ks zs) .read !)) 7 (spot 2) refl (S .typed 𝓤 H A W (s 0) (starts (x .now) (seens (κs .1) Ks zs))) $ sets ! (of-opd ! (lit ! tt)) 8 (spot 3) refl (tt, record { fits = lit< tt }) $
         move ! (0 ∷ 3 ∷ 16 ∷ 6 ∷ 8 ∷ 9 ∷ 10 ∷ 11 ∷ 12 ∷ 7 ∷ 2 ∷ 1 ∷ 4 ∷ []) $
-        goes-over spots ! 𝓣 x (is-x .0 .1) m (pass-below number (length (x .now))) IsS (starts (x .now) (seens (κs .1) Ks zs)) (λ i. ‵ (fat fullShare (S .ty) (l 2) 0 (S .val (s i))) ∷ Asked ∷ raw (toks 𝓤 A k (κs .1) (qs .1)) ∷ ‵ (cells (κs .1) Ks bs zs) ∷ []) _ (λ q′ B i l′ is-s Q next.
+        goes-over spots device-sized ! 𝓣 x (is-x .0 .1) m (pass-below number (length (x .now))) IsS (starts (x .now) (seens (κs .1) Ks zs)) (λ i. ‵ (fat fullShare (S .ty) (l 2) 0 (S .val (s i))) ∷ Asked ∷ raw (toks 𝓤 A k (κs .1) (qs .1)) ∷ ‵ (cells (κs .1) Ks bs zs) ∷ []) _ (λ q′ B i l′ is-s Q next.
         let below = pass-below number (length (x .now)) i l′ in
         let e : Device = getD (x .now) i powerUp in
         -- [the records; their open borrow; _1; m; i; the test's; the read's three; s; what turn asks of the parameters; the other tokens; the parameters; ..]
-        copies-out spots ! q′ x i below (is-x .0 .1) (λ is-e.
+        copies-out spots device-sized ! q′ x i powerUp below (is-x .0 .1) (λ is-e.
         move ! (10 ∷ []) $ use1 W (Asked ⊛ Asked) (doubled 𝓤 H A W κs Ks zs) $ split ! $
         owned ! (device .row) (Is (device .row)) (device .makes 𝓤 H A W) e (device .val e ∷ []) is-e $ fjoin ! $ owned ! (size .row) (Is (size .row)) (size .makes 𝓤 H A W) i (size .val i ∷ []) (refl, omega (arith, below, is-x .0 .1 .0)) $ fjoin ! $ owned ! (S .row) (Is (S .row)) (S .makes 𝓤 H A W) (s i) (S .val (s i) ∷ []) is-s $ fjoin ! $ move ! (0 ∷ 12 ∷ 13 ∷ []) $
         -- [what turn asks; the other tokens; the parameters; what turn asks of them; the records; ..; the read's three; s]
         calls-kinds ! (fmOf 𝓤 H (W .laws) 𝓣) (held S ∷ held size ∷ held device ∷ Ks) (held S) ψ known-turn (κs .1) (qs .1) (s i, (i, (e, zs)))
         (and-then ! (var ! 12 (spot 2) refl) (and-then ! (var ! 7 (spot 3) refl) (and-then ! (var ! 11 (spot 7) refl) (opds-all (κs .1) ! Ks bs zs (λ i. suc (suc (suc i))) E (λ i. refl))))) (λ w r turns.
-        lands-known ! S (s (i + 1)) w r (turns ∙ goes-on (x .now) (seens (κs .1) Ks zs) i) (λ is-next wt-next. lands-over ! 12 (spot 2) refl wt-next $ move ! (3 ∷ 4 ∷ 5 ∷ 6 ∷ 7 ∷ 8 ∷ 9 ∷ 10 ∷ 11 ∷ 12 ∷ 2 ∷ 0 ∷ []) $ next is-next _))))
+        lands-known ! S (s (i + 1)) w r (turns ∙ goes-on (x .now) (seens (κs .1) Ks zs) i) (λ is-next wt-next. lands-over ! 12 (spot 2) refl wt-next $ move ! (3 ∷ 4 ∷ 5 ∷ 6 ∷ 7 ∷ 8 ∷ 9 ∷ 10 ∷ 11 ∷ 12 ∷ 2 ∷ 0 ∷ []) $ next is-next _ _))))
         -- [the token; _1; m; i; the test's; the read's three; s; what turn asks of the parameters; the other tokens; the parameters; the length; that the eight die; _2; …; _1's …; _0, at 17; …]
         (λ is-all. sets ! (of-opd ! (var ! 8 (spot 2) refl)) 17 refl refl (S .typed 𝓤 H A W (s m) is-all) $ returns ! (look ! 17 refl) $ leave ! 17 17 refl refl $ leave ! 1 15 refl refl $ leave ! 13 13 refl refl $ move ! (10 ∷ []) $ leave-all (κs .1) ! Ks bs zs $
         move ! (10 ∷ 1 ∷ 7 ∷ 2 ∷ 3 ∷ 4 ∷ 5 ∷ 6 ∷ 11 ∷ []) $ leaves W dies (some _ ∷ some _ ∷ some _ ∷ some _ ∷ some _ ∷ []) ! $ keep ! (0 ∷ 2 ∷ []) $

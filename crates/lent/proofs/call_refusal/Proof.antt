@@ -16,9 +16,9 @@ use Rattle.pass.proofs.to_pass as look′
 use Rattle.pass.proofs.found as last′
 use Rattle.pass.proofs.Widths.new as new
 use Rattle.pass.proofs.Widths.with as also
-use Rattle.lent.proofs.Records.{size, byte, device, widths}
+use Rattle.lent.proofs.Records.{size, byte, device, device-sized, widths}
 use Rattle.lent.proofs.Locals.{values, envOf, starts, leaves, var, sets, lands-in, lands-over, count}
-use Rattle.lent.proofs.Chain.{chainTy, Spots, goes-over, copies-out}
+use Rattle.lent.proofs.Slices.{sharedTy, Spots, goes-over, copies-out}
 use Rattle.lent.proofs.Walk.{Walk, calls-value, proves}
 use Rattle.lent.proofs.call_refusal as call-refusal
 
@@ -34,7 +34,7 @@ IsWidths s = Is (widths .row) s (widths .val s ∷ [])
 
 -- the locals
 abbrev ls : List Local
-ls = values (byte .ty ∷ chainTy ∷ size .ty ∷ byte .ty ∷ size .ty ∷ byte .ty ∷ size .ty ∷ widths .ty ∷ size .ty ∷ tyBool ∷ size .ty ∷ tyPtr ∷ device .ty ∷ [])
+ls = values (byte .ty ∷ sharedTy device (named 0) ∷ size .ty ∷ byte .ty ∷ size .ty ∷ byte .ty ∷ size .ty ∷ widths .ty ∷ size .ty ∷ tyBool ∷ size .ty ∷ tyPtr ∷ device .ty ∷ [])
 
 module _ {M : Type 1} (𝓤 : URA M) (H : Heap 𝓤) (A : Atoms 𝓤) (W : Given 𝓤 H A) (mem : Memory → SProp 𝓤) (run : Routine → Fun 𝓤) (κ : Lft) (q : Share) (b o : ℕ) (γ : GName) (ys : List Device) (driver own : ℕ) where
   abbrev n : ℕ
@@ -74,16 +74,16 @@ module _ {M : Type 1} (𝓤 : URA M) (H : Heap 𝓤) (A : Atoms 𝓤) (W : Given
       calls-value ! (fmOf 𝓤 H (W .laws) 𝓣) [] widths (λ _. emp 𝓤) (λ _. noWidths) known-new tt tt (id⊢ 𝓤 _) (no-more !) (λ is-none wt-none. lands-in ! 7 refl refl wt-none $ rewrite ! 7 (λ (s : Widths). ‵ (fat fullShare (widths .ty) (l 7) 0 (widths .val s))) (widths-start ys) refl $
       sets ! (of-opd ! (lit ! tt)) 8 refl refl (tt, record { fits = lit< tt }) $ move ! (15 ∷ 14 ∷ []) $ fsplit ! $ move ! (2 ∷ []) $ split ! $
       -- [the token; true; what the chain owns; what the others own; _0; ..; _12; that they die]
-      let spots : Spots 𝓤 H (envOf ls l) 1 6 8 9 10 11 12 = record { at = λ k. getD (l 1 ∷ l 6 ∷ l 8 ∷ l 9 ∷ l 10 ∷ l 11 ∷ l 12 ∷ []) k 0; chain = refl; end = refl; count = refl; test = refl; scaled = refl; pointer = refl; copied = refl } in
+      let spots : Spots 𝓤 H device (named 0) (envOf ls l) 1 6 8 9 10 11 12 = record { at = λ k. getD (l 1 ∷ l 6 ∷ l 8 ∷ l 9 ∷ l 10 ∷ l 11 ∷ l 12 ∷ []) k 0; slice = refl; end = refl; count = refl; test = refl; scaled = refl; pointer = refl; copied = refl } in
       move ! (0 ∷ 2 ∷ 5 ∷ 10 ∷ 12 ∷ 13 ∷ 14 ∷ 15 ∷ 16 ∷ 11 ∷ []) $
-      goes-over spots ! 𝓣 x room m (pass-below early n) (λ i. IsWidths (at i) × AllBytes (take i ys)) (subst IsWidths (widths-start ys) is-none, all-start ys) (λ i. ‵ (fat fullShare (widths .ty) (l 7) 0 (widths .val (at i))) ∷ []) _ (λ q′ B i l′ good Q next.
+      goes-over spots device-sized ! 𝓣 x room m (pass-below early n) (λ i. IsWidths (at i) × AllBytes (take i ys)) (subst IsWidths (widths-start ys) is-none, all-start ys) (λ i. ‵ (fat fullShare (widths .ty) (l 7) 0 (widths .val (at i))) ∷ []) _ (λ q′ B i l′ good Q next.
       let below = pass-below early n i l′ in
       let e : Device = getD ys i powerUp in
       let step : widthsWith (at i) e ≡ at (i + 1) = widths-more ys i below in
       -- [the records; their open borrow; _1; _6; _8; ..; _12; _7]
-      copies-out spots ! q′ x i below room (λ is-e.
+      copies-out spots device-sized ! q′ x i powerUp below room (λ is-e.
       calls-value ! (fmOf 𝓤 H (W .laws) 𝓣) (widths ∷ device ∷ []) widths (λ _. emp 𝓤) (λ a. widthsWith (a .0) (a .1 .0)) known-also (at i, (e, tt)) (good .0, (is-e, tt)) (id⊢ 𝓤 _) (and-then ! (var ! 10 refl refl) (and-then ! (var ! 9 refl refl) (no-more !))) (λ is-next wt-next.
-      lands-over ! 9 refl refl wt-next $ rewrite ! 9 (λ (s : Widths). ‵ (fat fullShare (widths .ty) (l 7) 0 (widths .val s))) step refl $ next (subst IsWidths step is-next, all-more ys i below (good .1) (bytes-of e _ is-e)) _)))
+      lands-over ! 9 refl refl wt-next $ rewrite ! 9 (λ (s : Widths). ‵ (fat fullShare (widths .ty) (l 7) 0 (widths .val s))) step refl $ next (subst IsWidths step is-next, all-more ys i below (good .1) (bytes-of e _ is-e)) _ _)))
       -- [the token; _1; _6; _8; ..; _12; _7; true; what the others own; _0, at 11; _2; ..; _5; that they die]
       (λ good. calls-value ! (fmOf 𝓤 H (W .laws) 𝓣) (byte ∷ widths ∷ []) byte (λ _. emp 𝓤) (λ a. found (a .0) (fit (a .1 .0))) known-last (early, (at m, tt)) (is-early, (good .0, tt)) (id⊢ 𝓤 _) (and-then ! (var ! 16 refl refl) (and-then ! (var ! 9 refl refl) (no-more !))) (λ is-r wt-r. lands-in ! 11 refl refl wt-r $
       returns ! (look ! 11 refl) $ move ! (11 ∷ 1 ∷ 12 ∷ 13 ∷ 14 ∷ 15 ∷ 2 ∷ 8 ∷ 3 ∷ 4 ∷ 5 ∷ 6 ∷ 7 ∷ 16 ∷ []) $ leaves W dies (some _ ∷ some _ ∷ some _ ∷ some _ ∷ some _ ∷ some _ ∷ some _ ∷ some _ ∷ some _ ∷ some _ ∷ []) ! $ keep ! (0 ∷ []) $

@@ -20,10 +20,10 @@ use Rattle.pass.proofs.to_pass_in as look′
 use Rattle.pass.proofs.found as last′
 use Rattle.pass.proofs.Widths.new as new
 use Rattle.pass.proofs.Widths.with as also
-use Rattle.lent.proofs.Records.{size, byte, half, half-sized, device, widths, at-shift, local-shift}
+use Rattle.lent.proofs.Records.{size, byte, half, half-sized, device, device-sized, widths, at-shift, local-shift}
 use Rattle.lent.proofs.Locals.{span, values, envOf, held, starts, leaves, var, sets, lands-in, lands-over, start, count}
 use Rattle.lent.proofs.Elements.{points, takes-out, puts-in}
-use Rattle.lent.proofs.Chain.{chainTy, Spots, goes-over, copies-out}
+use Rattle.lent.proofs.Slices.{sharedTy, Spots, goes-over, copies-out}
 use Rattle.lent.proofs.Walk.{Walk, calls-value, proves}
 use Rattle.lent.proofs.shift_words as shift-words
 
@@ -46,7 +46,7 @@ shift-is d is = (refl, LL.owed T.the-type T′.the-laws d (device .val d ∷ [])
 
 -- the locals
 abbrev ls : List Local
-ls = values (byte .ty ∷ chainTy ∷ byte .ty ∷ sliceTy (tyRef (named 1) mut (pointee (S .written))) ∷ size .ty ∷ widths .ty ∷ size .ty ∷ device .ty ∷ size .ty ∷ size .ty ∷ tyBool ∷ size .ty ∷ tyPtr ∷ device .ty ∷ tyPtr ∷ [])
+ls = values (byte .ty ∷ sharedTy device (named 0) ∷ byte .ty ∷ sliceTy (tyRef (named 1) mut (pointee (S .written))) ∷ size .ty ∷ widths .ty ∷ size .ty ∷ device .ty ∷ size .ty ∷ size .ty ∷ tyBool ∷ size .ty ∷ tyPtr ∷ device .ty ∷ tyPtr ∷ [])
 
 -- the turns
 abbrev m : ℕ → List Device → List ℕ → ℕ
@@ -89,21 +89,21 @@ module _ {M : Type 1} (𝓤 : URA M) (H : Heap 𝓤) (A : Atoms 𝓤) (W : Given
       move ! (17 ∷ 16 ∷ []) $ fsplit ! $ move ! (1 ∷ []) $ fsplit ! $ drop ! $ fsplit ! $ fsplit ! $ pureL ! (at-slice S (ref ws) (slice-vals (ref ws))) (λ _. fsplit ! $ move ! (4 ∷ []) $ split ! $ move ! (1 ∷ []) $ split ! $ move ! (3 ∷ 4 ∷ 0 ∷ []) $ opens-slice ! tt S ws b₁ o₁ $
       -- [the words; their open borrow; obs; auth; true; the chain's token; true; what the chain owns; _0, at 8; ..; _14; that they die]
       rewrite ! 0 (λ (l : List ℕ). ‵ (row S fullShare l b₁ o₁)) (words-start ys ws) refl $
-      let spots : Spots 𝓤 H (envOf ls l) 1 4 6 10 11 12 13 = record { at = λ k. getD (l 1 ∷ l 4 ∷ l 6 ∷ l 10 ∷ l 11 ∷ l 12 ∷ l 13 ∷ []) k 0; chain = refl; end = refl; count = refl; test = refl; scaled = refl; pointer = refl; copied = refl } in
+      let spots : Spots 𝓤 H device (named 0) (envOf ls l) 1 4 6 10 11 12 13 = record { at = λ k. getD (l 1 ∷ l 4 ∷ l 6 ∷ l 10 ∷ l 11 ∷ l 12 ∷ l 13 ∷ []) k 0; slice = refl; end = refl; count = refl; test = refl; scaled = refl; pointer = refl; copied = refl } in
       move ! (5 ∷ 7 ∷ 9 ∷ 12 ∷ 14 ∷ 18 ∷ 19 ∷ 20 ∷ 21 ∷ 0 ∷ 13 ∷ 11 ∷ 15 ∷ 22 ∷ []) $
-      goes-over spots ! 𝓣 x room (m first ys ws) (λ i l. pass-in-below first (length ys) (length ws) i l .0) (λ i. IsWidths (at ys i) × AllBytes (take i ys)) (subst IsWidths (widths-start ys) is-none, all-start ys)
+      goes-over spots device-sized ! 𝓣 x room (m first ys ws) (λ i l. pass-in-below first (length ys) (length ws) i l .0) (λ i. IsWidths (at ys i) × AllBytes (take i ys)) (subst IsWidths (widths-start ys) is-none, all-start ys)
       (λ i. ‵ (row S fullShare (wordsTo ys ws i) b₁ o₁) ∷ held 𝓤 ((widths .ty, l 5) ∷ (sliceTy (tyRef (named 1) mut (pointee (S .written))), l 3) ∷ (device .ty, l 7) ∷ (tyPtr, l 14) ∷ []) (some (widths .val (at ys i)) ∷ some (sliceVal (b₁, o₁) (length ws)) ∷ [])) _ (λ q′ B i l′ good Q next.
       let below = pass-in-below first (length ys) (length ws) i l′ in
       let e : Device = getD ys i powerUp in
       let long : i < length (wordsTo ys ws i) = omega (arith, below .1, length-words ys ws i (omega (arith, below .1))) in
       let step : widthsWith (at ys i) e ≡ at ys (i + 1) = widths-more ys i (below .0) in
       -- [the records; their open borrow; _1; _4; _6; _10; ..; _13; the words; _5; _3; _7; _14]
-      copies-out spots ! q′ x i (below .0) room (λ is-e. sets ! (of-opd ! (var ! 8 refl refl)) 12 refl refl (device .typed 𝓤 H A W e is-e) $
+      copies-out spots device-sized ! q′ x i powerUp (below .0) room (λ is-e. sets ! (of-opd ! (var ! 8 refl refl)) 12 refl refl (device .typed 𝓤 H A W e is-e) $
       points ! 2 tt i (length ws) b₁ o₁ (below .1) (room₁ .1) (var ! 4 refl refl) (from ! (stop !)) (λ wt. store ! 6 refl wt) (start ! 11 refl refl) (var ! 6 refl refl) (from ! (stop !)) (init ! 13 refl (tt, tt)) $
       move ! (9 ∷ []) $ takes-out ! half half-sized fullShare (wordsTo ys ws i) i 0 b₁ o₁ long (λ _. assigns ! (of-opd ! (load ! (from ! (at-shift !)) (look-in ! 14 (local-shift !)))) (from ! (hop ! (look ! 15 refl) (stop !))) (store-raw ! 0 refl (half .typed 𝓤 H A W (e .shift) (shift-is e is-e))) $
       puts-in ! half half-sized fullShare (wordsTo ys ws i) i 0 (e .shift) b₁ o₁ long (shift-is e is-e) $ rewrite ! 0 (λ (l : List ℕ). ‵ (row S fullShare l b₁ o₁)) (words-more ys ws i (below .1)) refl $
       calls-value ! (fmOf 𝓤 H (W .laws) 𝓣) (widths ∷ device ∷ []) widths (λ _. emp 𝓤) (λ a. widthsWith (a .0) (a .1 .0)) (known .also) (at ys i, (e, tt)) (good .0, (is-e, tt)) (id⊢ 𝓤 _) (and-then ! (var ! 11 refl refl) (and-then ! (var ! 13 refl refl) (no-more !))) (λ is-next wt-next.
-      lands-over ! 10 refl refl wt-next $ rewrite ! 10 (λ (s : Widths). ‵ (fat fullShare (widths .ty) (l 5) 0 (widths .val s))) step refl $ forget ! 12 refl $ forget ! 13 refl $ move ! (span 1 9) $ next (subst IsWidths step is-next, all-more ys i (below .0) (good .1) (bytes-of e _ is-e)) _))))
+      lands-over ! 10 refl refl wt-next $ rewrite ! 10 (λ (s : Widths). ‵ (fat fullShare (widths .ty) (l 5) 0 (widths .val s))) step refl $ forget ! 12 refl $ forget ! 13 refl $ move ! (span 1 9) $ next (subst IsWidths step is-next, all-more ys i (below .0) (good .1) (bytes-of e _ is-e)) _ _))))
       -- [the chain's token; _1; _4; _6; _10; ..; _13; the words, at 8; _5; _3; _7; _14; their open borrow; obs; auth; true; true; _0, at 18; _2; _8; _9; that they die]
       (λ good. let long : length (wordsTo ys ws (m first ys ws)) ≡ length ws = length-words ys ws (m first ys ws) (pass-in-le first (length ys) (length ws)) in
       calls-value ! (fmOf 𝓤 H (W .laws) 𝓣) (byte ∷ widths ∷ []) byte (λ _. emp 𝓤) (λ a. found (a .0) (fit (a .1 .0))) (known .last) (first, (at ys (m first ys ws), tt)) (is-first, (good .0, tt)) (id⊢ 𝓤 _) (and-then ! (var ! 20 refl refl) (and-then ! (var ! 10 refl refl) (no-more !))) (λ is-r wt-r. lands-in ! 18 refl refl wt-r $

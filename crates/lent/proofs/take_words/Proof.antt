@@ -1,9 +1,9 @@
 -- `lent::take_words` meets its contract: a walk of its MIR, by hand. Both slices are opened once, before the loop. A turn copies one word out. Where its address is 0x20 or above the record is opened once,
 -- two of its bytes are read and stored where they lie, and its shift word and answer mark are stored; else the record is copied out, `taken` is called and its result stored.
 -- Assumes nothing.
-use Rattle.ground.proofs.Names.{arith, Holds, _++_, Option, none, ltb, _/_, _%_, true, lt-ltb}
+use Rattle.ground.proofs.Names.{arith, Holds, _++_, none, _/_, _%_, true, lt-ltb}
 use mathlib.Core.Option.{some}
-use Rattle.lent.proofs.Logic.{_≡_, refl, sym, ap, _∙_, subst, ℕ, zero-le, _+_, _-_, _<_, _≤_, _^_, le-antisymm, List, [], _∷_, lit<, ltb→lt, nltb→le, length, getD, set, URA, fullShare, named, w64, tyPtr, tyBool, vint, SProp, emp, id⊢, via, fst∗, Lft, GName, Share, ftrue, flft, Memory, Routine, Heap, Tables, Atoms, Fun, givenOf, tables, tablesOf, Given, ‵, _⊛_, _$_, _∵_, !, qed, move, keep, split, join, rewrite, fsplit, fjoin, suffices, frame, done, look, init, store, store-raw, forget, stop, hop, from, load, lit, of-opd, bin, and-then, no-more, assigns, assigns-last, returns, enter, params1, pass1, pass0, fmOf, RattleType, owns, Is, shows, RefT, pureI, sliceVal, MutSlice, ShrSlice, Room, at-slice, slice-vals, mut-slice-tells, shr-slice-tells, row, opens-slice, closes-slice, looks-slice, shuts-slice, plain, nothing, Bound, tripleOf, Triple, cited, says, Stays, stay-slice, goes-slice, ends-at, yes, Local, Body, w16, tyUnit, tyRef, mut, imm, seq, block, loop, next, Item, Post, post, prop, runs, Sq, store-in, addr, Val, vunit, vbool, feqI, unit-lit, lies, pointee, uint-copy, pureL, shrSliceOf, sliceTy, stay-dropped, goes-dropped}
+use Rattle.lent.proofs.Logic.{_≡_, refl, sym, ap, _∙_, subst, ℕ, _+_, _<_, _^_, List, [], _∷_, lit<, ltb→lt, length, getD, set, URA, fullShare, named, tyPtr, tyBool, SProp, emp, id⊢, via, fst∗, Lft, GName, Share, ftrue, flft, Memory, Routine, Heap, Tables, Atoms, Fun, givenOf, tables, tablesOf, Given, ‵, _⊛_, _$_, _∵_, !, qed, move, keep, split, join, rewrite, fsplit, fjoin, suffices, frame, done, look, init, store, store-raw, forget, stop, hop, from, load, lit, of-opd, bin, and-then, no-more, assigns, assigns-last, returns, enter, params1, pass1, pass0, fmOf, RattleType, owns, Is, RefT, pureI, sliceVal, MutSlice, ShrSlice, Room, at-slice, slice-vals, mut-slice-tells, shr-slice-tells, row, opens-slice, closes-slice, plain, nothing, Bound, tripleOf, Triple, cited, says, Stays, stay-slice, goes-slice, ends-at, yes, Local, Ty, Body, tyUnit, tyRef, mut, next, Item, Post, post, prop, runs, Sq, store-in, addr, Val, vunit, feqI, unit-lit, lies, pointee, pureL, shrSliceOf, sliceTy, stay-dropped, goes-dropped}
 use Rattle.device.specs.PowerUp.{powerUp}
 use Rattle.device.specs.Taken.{taken}
 use Rattle.device.specs.declared.Device.{Device}
@@ -17,6 +17,7 @@ use Rattle.lent.proofs.Records.{size, byte, half, half-sized, device, r
 use Rattle.lent.proofs.Parts.{part, rest}
 use Rattle.lent.proofs.Locals.{span, values, envOf, held, starts, leaves, var, sets, resets, lands-in, lands-over, start, count}
 use Rattle.lent.proofs.Elements.{points, takes-out, puts-in, copies}
+use Rattle.lent.proofs.Slices.{sharedTy, Spots, goes-over, copies-out}
 use Rattle.lent.proofs.Places.{bytes, long, at-most, look-byte, store-byte, meets}
 use Rattle.high_words.specs.HighWords.{isHigh, digitOf, newP0, newP1, newShift, newMark, highTaken}
 use Rattle.high_words.proofs.HighLaws.{high-taken}
@@ -26,7 +27,7 @@ use Rattle.high_words.proofs.new_p0 as p0′
 use Rattle.high_words.proofs.new_p1 as p1′
 use Rattle.high_words.proofs.new_shift as shift′
 use Rattle.high_words.proofs.new_mark as mark′
-use Rattle.lent.proofs.Walk.{Walk, flag, calls-value, tests, whiles, proves}
+use Rattle.lent.proofs.Walk.{Walk, flag, calls-value, proves}
 use Rattle.lent.proofs.take_words as take-words
 
 abbrev R : RattleType
@@ -40,7 +41,11 @@ stayed = (stay-slice (0 ∷ []) tt (plain (λ _. R)), (stay-dropped (shrSliceOf 
 
 -- the locals
 abbrev ls : List Local
-ls = values (tyUnit ∷ sliceTy (tyRef (named 0) mut (pointee (R .written))) ∷ sliceTy (tyRef (named 1) imm (pointee (S .written))) ∷ size .ty ∷ size .ty ∷ half .ty ∷ size .ty ∷ byte .ty ∷ byte .ty ∷ size .ty ∷ size .ty ∷ tyBool ∷ size .ty ∷ tyPtr ∷ half .ty ∷ tyBool ∷ size .ty ∷ tyPtr ∷ tyPtr ∷ tyPtr ∷ byte .ty ∷ tyPtr ∷ tyPtr ∷ tyPtr ∷ tyPtr ∷ tyPtr ∷ tyPtr ∷ tyPtr ∷ tyPtr ∷ tyPtr ∷ half .ty ∷ tyPtr ∷ tyPtr ∷ device .ty ∷ size .ty ∷ tyPtr ∷ device .ty ∷ size .ty ∷ tyPtr ∷ [])
+ls = values (tyUnit ∷ sliceTy (tyRef (named 0) mut (pointee (R .written))) ∷ sharedTy half (named 1) ∷ size .ty ∷ size .ty ∷ half .ty ∷ size .ty ∷ byte .ty ∷ byte .ty ∷ size .ty ∷ size .ty ∷ tyBool ∷ size .ty ∷ tyPtr ∷ half .ty ∷ tyBool ∷ size .ty ∷ tyPtr ∷ tyPtr ∷ tyPtr ∷ byte .ty ∷ tyPtr ∷ tyPtr ∷ tyPtr ∷ tyPtr ∷ tyPtr ∷ tyPtr ∷ tyPtr ∷ tyPtr ∷ tyPtr ∷ half .ty ∷ tyPtr ∷ tyPtr ∷ device .ty ∷ size .ty ∷ tyPtr ∷ device .ty ∷ size .ty ∷ tyPtr ∷ [])
+
+-- those of a turn's two ways, but i's
+abbrev ways : (ℕ → ℕ) → List (Ty × ℕ)
+ways l = (sliceTy (tyRef (named 0) mut (pointee (R .written))), l 1) ∷ (half .ty, l 5) ∷ (size .ty, l 6) ∷ (byte .ty, l 7) ∷ (byte .ty, l 8) ∷ (size .ty, l 16) ∷ (tyPtr, l 17) ∷ (tyPtr, l 18) ∷ (tyPtr, l 19) ∷ (byte .ty, l 20) ∷ (tyPtr, l 21) ∷ (tyPtr, l 22) ∷ (tyPtr, l 23) ∷ (tyPtr, l 24) ∷ (tyPtr, l 25) ∷ (tyPtr, l 26) ∷ (tyPtr, l 27) ∷ (tyPtr, l 28) ∷ (tyPtr, l 29) ∷ (half .ty, l 30) ∷ (tyPtr, l 31) ∷ (tyPtr, l 32) ∷ (device .ty, l 33) ∷ (size .ty, l 34) ∷ (tyPtr, l 35) ∷ (device .ty, l 36) ∷ (size .ty, l 37) ∷ (tyPtr, l 38) ∷ []
 
 -- a turn's code
 abbrev turn : Body
@@ -61,15 +66,11 @@ record Known {M : Type 1} (𝓤 : URA M) (H : Heap 𝓤) (A : Atoms 𝓤) (mem :
   mark : Triple 𝓤 (𝓣 .C mark′.Symbol.name) (tripleOf 𝓤 H A mark′.signature (mark′.spec 𝓤 H A mem run))
   work : Triple 𝓤 (𝓣 .C work.Symbol.name) (tripleOf 𝓤 H A work.signature (work.spec 𝓤 H A mem run))
 
-module _ {M : Type 1} (𝓤 : URA M) (H : Heap 𝓤) (A : Atoms 𝓤) (W : Given 𝓤 H A) (mem : Memory → SProp 𝓤) (run : Routine → Fun 𝓤) (𝓣 : Tables 𝓤 H) (b o : ℕ) (ys : List Device) (b₁ o₁ : ℕ) (ws : List ℕ) (l : ℕ → ℕ) (q′ : Share) where
-  -- the words and the locals in turn i: w is in _5, and vs from _11 on
-  abbrev At-turn : ℕ → Option Val → List (Option Val) → List (Item 𝓤)
-  At-turn i w vs = ‵ (row S q′ ws b₁ o₁) ∷ held 𝓤 (envOf ls l) (none ∷ some (sliceVal (b, o) (length ys)) ∷ some (sliceVal (b₁, o₁) (length ws)) ∷ some (size .val (m ys ws)) ∷ some (vint w64 i) ∷ w ∷ none ∷ none ∷ none ∷ some (size .val (length ys)) ∷ some (size .val (length ws)) ∷ vs)
-
-  module _ (i v : ℕ) (is-v : Is S v (half .val v ∷ [])) (u₁ u₂ u₃ u₄ u₅ : Val) (Θ : List (Item 𝓤)) (p : Post 𝓤 H) (room : Room R (length ys)) (below : i < length ys) where
-    -- the words and the locals in either way
+module _ {M : Type 1} (𝓤 : URA M) (H : Heap 𝓤) (A : Atoms 𝓤) (W : Given 𝓤 H A) (mem : Memory → SProp 𝓤) (run : Routine → Fun 𝓤) (𝓣 : Tables 𝓤 H) (b o : ℕ) (ys : List Device) (ws : List ℕ) (l : ℕ → ℕ) where
+  module _ (i v : ℕ) (is-v : Is S v (half .val v ∷ [])) (Θ : List (Item 𝓤)) (p : Post 𝓤 H) (room : Room R (length ys)) (below : i < length ys) where
+    -- the locals in either way
     abbrev Way : List (Item 𝓤)
-    Way = At-turn i (some (half .val v)) (some u₁ ∷ some u₂ ∷ some u₃ ∷ some u₄ ∷ some u₅ ∷ []) ++ Θ
+    Way = held 𝓤 ((size .ty, l 4) ∷ ways l) (some (size .val i) ∷ some (sliceVal (b, o) (length ys)) ∷ some (half .val v) ∷ []) ++ Θ
 
     -- what is stored where the word's address is 0x20 or above, in a record whose planes are x0 and x1
     stores : Known 𝓤 H A mem run 𝓣 → {c f e g w h t a s m : Val} {j₁ j₂ : Item 𝓤} (x0 x1 : List ℕ) → length x0 ≡ 16 → length x1 ≡ 16 → getD x0 (digitOf v) 0 < 2 ^ 8 → getD x1 (digitOf v) 0 < 2 ^ 8
@@ -78,24 +79,24 @@ module _ {M : Type 1} (𝓤 : URA M) (H : Heap 𝓤) (A : Atoms 𝓤) (W : Given
         → Sq W (Cell 𝓤 fullShare b (lies recordBytes o i) c f e g w h t a (bytes x0) (bytes x1) s m ∷ j₁ ∷ j₂ ∷ Way) (runs (𝓣 .C) (𝓣 .Λ) (envOf ls l) (part (part (rest (rest (rest (rest (rest (rest (rest turn))))))))) p)
     stores known x0 x1 long0 long1 is-p0 is-p1 k =
         let at< : digitOf v < 16 = omega arith in
-        -- [the record; what it owns; the others; the words; _0; _1; ..]
-        calls-value ! (fmOf 𝓤 H (W .laws) 𝓣) (half ∷ []) size (λ _. emp 𝓤) (λ a. digitOf (a .0)) (known .at) (v, tt) (is-v, tt) (id⊢ 𝓤 _) (and-then ! (var ! 10 refl refl) (no-more !)) (λ is-at wt-at. lands-in ! 10 refl refl wt-at $
-        points ! recordBytes tt i (length ys) b o below (room .1) (var ! 8 refl refl) (from ! (stop !)) (λ wt. init ! 20 refl wt) (start ! 5 refl refl) (var ! 20 refl refl) (from ! (stop !)) (init ! 21 refl (tt, tt)) $ sets ! (addr ! (from ! (hop ! (look ! 21 refl) (at-p0 !)))) 22 refl refl (tt, tt) $ sets ! (bin ! (var ! 22 refl refl) (var ! 10 refl refl) tt) 23 refl refl (tt, tt) $
-        sets ! (of-opd ! (load ! (from ! (hop ! (look ! 23 refl) (stop !))) (look-byte ! 0 x0 (digitOf v) long0 at< (in-p0 !)))) 24 refl refl (tt, record { fits = is-p0 }) $ sets ! (of-opd ! (var ! 24 refl refl)) 11 refl refl (tt, record { fits = is-p0 }) $
-        points ! recordBytes tt i (length ys) b o below (room .1) (var ! 8 refl refl) (from ! (stop !)) (λ wt. store ! 20 refl wt) (start ! 5 refl refl) (var ! 20 refl refl) (from ! (stop !)) (init ! 25 refl (tt, tt)) $ sets ! (addr ! (from ! (hop ! (look ! 25 refl) (at-p1 !)))) 26 refl refl (tt, tt) $ sets ! (bin ! (var ! 26 refl refl) (var ! 10 refl refl) tt) 27 refl refl (tt, tt) $
-        resets ! (of-opd ! (load ! (from ! (hop ! (look ! 27 refl) (stop !))) (look-byte ! 0 x1 (digitOf v) long1 at< (in-p1 !)))) 24 refl refl (tt, record { fits = is-p1 }) $ sets ! (of-opd ! (var ! 24 refl refl)) 12 refl refl (tt, record { fits = is-p1 }) $
-        calls-value ! (fmOf 𝓤 H (W .laws) 𝓣) (half ∷ byte ∷ []) byte (λ _. emp 𝓤) (λ a. newP0 (a .0) (a .1 .0)) (known .p0) (v, (getD x0 (digitOf v) 0, tt)) (is-v, ((refl, is-p0), tt)) (id⊢ 𝓤 _) (and-then ! (var ! 10 refl refl) (and-then ! (var ! 12 refl refl) (no-more !))) (λ is-n0 wt-n0. lands-over ! 24 refl refl wt-n0 $
-        points ! recordBytes tt i (length ys) b o below (room .1) (var ! 8 refl refl) (from ! (stop !)) (λ wt. store ! 20 refl wt) (start ! 5 refl refl) (var ! 20 refl refl) (from ! (stop !)) (init ! 28 refl (tt, tt)) $ sets ! (addr ! (from ! (hop ! (look ! 28 refl) (at-p0 !)))) 29 refl refl (tt, tt) $ sets ! (bin ! (var ! 29 refl refl) (var ! 10 refl refl) tt) 30 refl refl (tt, tt) $
-        assigns ! (of-opd ! (var ! 24 refl refl)) (from ! (hop ! (look ! 30 refl) (stop !))) (store-byte ! 0 x0 (digitOf v) (newP0 v (getD x0 (digitOf v) 0)) long0 at< (is-n0 .1) (in-p0 !)) $
-        calls-value ! (fmOf 𝓤 H (W .laws) 𝓣) (half ∷ byte ∷ []) byte (λ _. emp 𝓤) (λ a. newP1 (a .0) (a .1 .0)) (known .p1) (v, (getD x1 (digitOf v) 0, tt)) (is-v, ((refl, is-p1), tt)) (id⊢ 𝓤 _) (and-then ! (var ! 10 refl refl) (and-then ! (var ! 13 refl refl) (no-more !))) (λ is-n1 wt-n1. lands-over ! 24 refl refl wt-n1 $
-        points ! recordBytes tt i (length ys) b o below (room .1) (var ! 8 refl refl) (from ! (stop !)) (λ wt. store ! 20 refl wt) (start ! 5 refl refl) (var ! 20 refl refl) (from ! (stop !)) (init ! 31 refl (tt, tt)) $ sets ! (addr ! (from ! (hop ! (look ! 31 refl) (at-p1 !)))) 32 refl refl (tt, tt) $ sets ! (bin ! (var ! 32 refl refl) (var ! 10 refl refl) tt) 33 refl refl (tt, tt) $
-        assigns ! (of-opd ! (var ! 24 refl refl)) (from ! (hop ! (look ! 33 refl) (stop !))) (store-byte ! 0 x1 (digitOf v) (newP1 v (getD x1 (digitOf v) 0)) long1 at< (is-n1 .1) (in-p1 !)) $
+        -- [the record; what it owns; the others; _4; _1; _5; ..; _8; _16; ..; _38]
+        calls-value ! (fmOf 𝓤 H (W .laws) 𝓣) (half ∷ []) size (λ _. emp 𝓤) (λ a. digitOf (a .0)) (known .at) (v, tt) (is-v, tt) (id⊢ 𝓤 _) (and-then ! (var ! 6 refl refl) (no-more !)) (λ is-at wt-at. lands-in ! 6 refl refl wt-at $
+        points ! recordBytes tt i (length ys) b o below (room .1) (var ! 3 refl refl) (from ! (stop !)) (λ wt. init ! 9 refl wt) (start ! 4 refl refl) (var ! 9 refl refl) (from ! (stop !)) (init ! 10 refl (tt, tt)) $ sets ! (addr ! (from ! (hop ! (look ! 10 refl) (at-p0 !)))) 11 refl refl (tt, tt) $ sets ! (bin ! (var ! 11 refl refl) (var ! 6 refl refl) tt) 12 refl refl (tt, tt) $
+        sets ! (of-opd ! (load ! (from ! (hop ! (look ! 12 refl) (stop !))) (look-byte ! 0 x0 (digitOf v) long0 at< (in-p0 !)))) 13 refl refl (tt, record { fits = is-p0 }) $ sets ! (of-opd ! (var ! 13 refl refl)) 7 refl refl (tt, record { fits = is-p0 }) $
+        points ! recordBytes tt i (length ys) b o below (room .1) (var ! 3 refl refl) (from ! (stop !)) (λ wt. store ! 9 refl wt) (start ! 4 refl refl) (var ! 9 refl refl) (from ! (stop !)) (init ! 14 refl (tt, tt)) $ sets ! (addr ! (from ! (hop ! (look ! 14 refl) (at-p1 !)))) 15 refl refl (tt, tt) $ sets ! (bin ! (var ! 15 refl refl) (var ! 6 refl refl) tt) 16 refl refl (tt, tt) $
+        resets ! (of-opd ! (load ! (from ! (hop ! (look ! 16 refl) (stop !))) (look-byte ! 0 x1 (digitOf v) long1 at< (in-p1 !)))) 13 refl refl (tt, record { fits = is-p1 }) $ sets ! (of-opd ! (var ! 13 refl refl)) 8 refl refl (tt, record { fits = is-p1 }) $
+        calls-value ! (fmOf 𝓤 H (W .laws) 𝓣) (half ∷ byte ∷ []) byte (λ _. emp 𝓤) (λ a. newP0 (a .0) (a .1 .0)) (known .p0) (v, (getD x0 (digitOf v) 0, tt)) (is-v, ((refl, is-p0), tt)) (id⊢ 𝓤 _) (and-then ! (var ! 6 refl refl) (and-then ! (var ! 8 refl refl) (no-more !))) (λ is-n0 wt-n0. lands-over ! 13 refl refl wt-n0 $
+        points ! recordBytes tt i (length ys) b o below (room .1) (var ! 3 refl refl) (from ! (stop !)) (λ wt. store ! 9 refl wt) (start ! 4 refl refl) (var ! 9 refl refl) (from ! (stop !)) (init ! 17 refl (tt, tt)) $ sets ! (addr ! (from ! (hop ! (look ! 17 refl) (at-p0 !)))) 18 refl refl (tt, tt) $ sets ! (bin ! (var ! 18 refl refl) (var ! 6 refl refl) tt) 19 refl refl (tt, tt) $
+        assigns ! (of-opd ! (var ! 13 refl refl)) (from ! (hop ! (look ! 19 refl) (stop !))) (store-byte ! 0 x0 (digitOf v) (newP0 v (getD x0 (digitOf v) 0)) long0 at< (is-n0 .1) (in-p0 !)) $
+        calls-value ! (fmOf 𝓤 H (W .laws) 𝓣) (half ∷ byte ∷ []) byte (λ _. emp 𝓤) (λ a. newP1 (a .0) (a .1 .0)) (known .p1) (v, (getD x1 (digitOf v) 0, tt)) (is-v, ((refl, is-p1), tt)) (id⊢ 𝓤 _) (and-then ! (var ! 6 refl refl) (and-then ! (var ! 9 refl refl) (no-more !))) (λ is-n1 wt-n1. lands-over ! 13 refl refl wt-n1 $
+        points ! recordBytes tt i (length ys) b o below (room .1) (var ! 3 refl refl) (from ! (stop !)) (λ wt. store ! 9 refl wt) (start ! 4 refl refl) (var ! 9 refl refl) (from ! (stop !)) (init ! 20 refl (tt, tt)) $ sets ! (addr ! (from ! (hop ! (look ! 20 refl) (at-p1 !)))) 21 refl refl (tt, tt) $ sets ! (bin ! (var ! 21 refl refl) (var ! 6 refl refl) tt) 22 refl refl (tt, tt) $
+        assigns ! (of-opd ! (var ! 13 refl refl)) (from ! (hop ! (look ! 22 refl) (stop !))) (store-byte ! 0 x1 (digitOf v) (newP1 v (getD x1 (digitOf v) 0)) long1 at< (is-n1 .1) (in-p1 !)) $
         calls-value ! (fmOf 𝓤 H (W .laws) 𝓣) (half ∷ byte ∷ byte ∷ []) half (λ _. emp 𝓤) (λ a. newShift (a .0) (a .1 .0) (a .1 .1 .0)) (known .shift) (v, (getD x0 (digitOf v) 0, (getD x1 (digitOf v) 0, tt))) (is-v, ((refl, is-p0), ((refl, is-p1), tt))) (id⊢ 𝓤 _)
-        (and-then ! (var ! 10 refl refl) (and-then ! (var ! 12 refl refl) (and-then ! (var ! 13 refl refl) (no-more !)))) (λ is-s wt-s. lands-in ! 34 refl refl wt-s $
-        points ! recordBytes tt i (length ys) b o below (room .1) (var ! 8 refl refl) (from ! (stop !)) (λ wt. store ! 20 refl wt) (start ! 5 refl refl) (var ! 20 refl refl) (from ! (stop !)) (init ! 35 refl (tt, tt)) $ assigns ! (of-opd ! (var ! 34 refl refl)) (from ! (hop ! (look ! 35 refl) (at-shift !))) (store-in ! 0 (in-shift !) wt-s) $
-        calls-value ! (fmOf 𝓤 H (W .laws) 𝓣) (half ∷ []) byte (λ _. emp 𝓤) (λ a. newMark (a .0)) (known .mark) (v, tt) (is-v, tt) (id⊢ 𝓤 _) (and-then ! (var ! 10 refl refl) (no-more !)) (λ is-m wt-m. lands-over ! 24 refl refl wt-m $
-        points ! recordBytes tt i (length ys) b o below (room .1) (var ! 8 refl refl) (from ! (stop !)) (λ wt. store ! 20 refl wt) (start ! 5 refl refl) (var ! 20 refl refl) (from ! (stop !)) (init ! 36 refl (tt, tt)) $ assigns-last ! (of-opd ! (var ! 24 refl refl)) (from ! (hop ! (look ! 36 refl) (at-mark !))) (store-in ! 0 (in-mark !) wt-m) $
-        forget ! 10 refl $ forget ! 11 refl $ forget ! 12 refl $ forget ! 20 refl $ forget ! 21 refl $ forget ! 22 refl $ forget ! 23 refl $ forget ! 24 refl $ forget ! 25 refl $ forget ! 26 refl $ forget ! 27 refl $ forget ! 28 refl $ forget ! 29 refl $ forget ! 30 refl $ forget ! 31 refl $ forget ! 32 refl $ forget ! 33 refl $ forget ! 34 refl $ forget ! 35 refl $ forget ! 36 refl $ k (is-n0 .1) (is-n1 .1) (is-s .1) (is-m .1))))))
+        (and-then ! (var ! 6 refl refl) (and-then ! (var ! 8 refl refl) (and-then ! (var ! 9 refl refl) (no-more !)))) (λ is-s wt-s. lands-in ! 23 refl refl wt-s $
+        points ! recordBytes tt i (length ys) b o below (room .1) (var ! 3 refl refl) (from ! (stop !)) (λ wt. store ! 9 refl wt) (start ! 4 refl refl) (var ! 9 refl refl) (from ! (stop !)) (init ! 24 refl (tt, tt)) $ assigns ! (of-opd ! (var ! 23 refl refl)) (from ! (hop ! (look ! 24 refl) (at-shift !))) (store-in ! 0 (in-shift !) wt-s) $
+        calls-value ! (fmOf 𝓤 H (W .laws) 𝓣) (half ∷ []) byte (λ _. emp 𝓤) (λ a. newMark (a .0)) (known .mark) (v, tt) (is-v, tt) (id⊢ 𝓤 _) (and-then ! (var ! 6 refl refl) (no-more !)) (λ is-m wt-m. lands-over ! 13 refl refl wt-m $
+        points ! recordBytes tt i (length ys) b o below (room .1) (var ! 3 refl refl) (from ! (stop !)) (λ wt. store ! 9 refl wt) (start ! 4 refl refl) (var ! 9 refl refl) (from ! (stop !)) (init ! 25 refl (tt, tt)) $ assigns-last ! (of-opd ! (var ! 13 refl refl)) (from ! (hop ! (look ! 25 refl) (at-mark !))) (store-in ! 0 (in-mark !) wt-m) $
+        forget ! 6 refl $ forget ! 7 refl $ forget ! 8 refl $ forget ! 9 refl $ forget ! 10 refl $ forget ! 11 refl $ forget ! 12 refl $ forget ! 13 refl $ forget ! 14 refl $ forget ! 15 refl $ forget ! 16 refl $ forget ! 17 refl $ forget ! 18 refl $ forget ! 19 refl $ forget ! 20 refl $ forget ! 21 refl $ forget ! 22 refl $ forget ! 23 refl $ forget ! 24 refl $ forget ! 25 refl $ k (is-n0 .1) (is-n1 .1) (is-s .1) (is-m .1))))))
 
     module _ (l′ : i < length (takenTo ys ws i)) (step : set (takenTo ys ws i) i (taken (getD (takenTo ys ws i) i powerUp) v) ≡ takenTo ys ws (i + 1)) (known : Known 𝓤 H A mem run 𝓣) (k : Sq W (‵ (row R fullShare (takenTo ys ws (i + 1)) b o) ∷ Way) (prop (post 𝓤 H p next))) where
       -- where the word's address is 0x20 or above
@@ -118,41 +119,14 @@ module _ {M : Type 1} (𝓤 : URA M) (H : Heap 𝓤) (A : Atoms 𝓤) (W : Given
       near =
           let d : Device = getD (takenTo ys ws i) i powerUp in
           let e : Device = taken d v in
-          copies ! device device-sized fullShare (takenTo ys ws i) i (length ys) powerUp b o below (room .1) l′ (var ! 6 refl refl) (from ! (stop !)) (λ wt. init ! 36 refl wt) (start ! 3 refl refl) (var ! 36 refl refl) (from ! (stop !)) (init ! 37 refl (tt, tt)) (from ! (hop ! (look ! 39 refl) (stop !))) (from ! (stop !)) (λ wt. init ! 40 refl wt) (λ is-d.
-          calls-value ! (fmOf 𝓤 H (W .laws) 𝓣) (device ∷ half ∷ []) device (λ _. emp 𝓤) (λ a. taken (a .0) (a .1 .0)) (known .work) (d, (v, tt)) (is-d, (is-v, tt)) (id⊢ 𝓤 _) (and-then ! (var ! 39 refl refl) (and-then ! (var ! 8 refl refl) (no-more !))) (λ is-e wt-e. lands-in ! 35 refl refl wt-e $
-          points ! recordBytes tt i (length ys) b o below (room .1) (var ! 6 refl refl) (from ! (stop !)) (λ wt. init ! 39 refl wt) (start ! 3 refl refl) (var ! 39 refl refl) (from ! (stop !)) (init ! 40 refl (tt, tt)) $
+          copies ! device device-sized fullShare (takenTo ys ws i) i (length ys) powerUp b o below (room .1) l′ (var ! 1 refl refl) (from ! (stop !)) (λ wt. init ! 25 refl wt) (start ! 2 refl refl) (var ! 25 refl refl) (from ! (stop !)) (init ! 26 refl (tt, tt)) (from ! (hop ! (look ! 28 refl) (stop !))) (from ! (stop !)) (λ wt. init ! 29 refl wt) (λ is-d.
+          calls-value ! (fmOf 𝓤 H (W .laws) 𝓣) (device ∷ half ∷ []) device (λ _. emp 𝓤) (λ a. taken (a .0) (a .1 .0)) (known .work) (d, (v, tt)) (is-d, (is-v, tt)) (id⊢ 𝓤 _) (and-then ! (var ! 28 refl refl) (and-then ! (var ! 4 refl refl) (no-more !))) (λ is-e wt-e. lands-in ! 24 refl refl wt-e $
+          points ! recordBytes tt i (length ys) b o below (room .1) (var ! 1 refl refl) (from ! (stop !)) (λ wt. init ! 28 refl wt) (start ! 2 refl refl) (var ! 28 refl refl) (from ! (stop !)) (init ! 29 refl (tt, tt)) $
           takes-out ! device device-sized fullShare (takenTo ys ws i) i powerUp b o l′ (λ _.
-          assigns-last ! (of-opd ! (var ! 37 refl refl)) (from ! (hop ! (look ! 42 refl) (stop !))) (store-raw ! 0 refl wt-e) $
+          assigns-last ! (of-opd ! (var ! 26 refl refl)) (from ! (hop ! (look ! 31 refl) (stop !))) (store-raw ! 0 refl wt-e) $
           puts-in ! device device-sized fullShare (takenTo ys ws i) i powerUp e b o l′ is-e $
           rewrite ! 0 (λ (l : List Device). ‵ (row R fullShare l b o)) step refl $
-          forget ! 35 refl $ forget ! 36 refl $ forget ! 37 refl $ forget ! 38 refl $ forget ! 39 refl $ forget ! 40 refl $ k)))
-
-  -- the loop's state
-  abbrev At : Type 0
-  At = (i : ℕ) × (i ≤ m ys ws)
-
-  looped : Known 𝓤 H A mem run 𝓣 → Room R (length ys) → Room S (length ws) → (Θ : List (Item 𝓤)) {after : Body} {p : Post 𝓤 H}
-      → Sq W (‵ (row R fullShare (takenTo ys ws (m ys ws)) b o) ∷ (At-turn (m ys ws) none (some (vbool (ltb (m ys ws) (m ys ws))) ∷ []) ++ Θ)) (runs (𝓣 .C) (𝓣 .Λ) (envOf ls l) after p) → Sq W (‵ (row R fullShare (takenTo ys ws 0) b o) ∷ (At-turn 0 none [] ++ Θ)) (runs (𝓣 .C) (𝓣 .Λ) (envOf ls l) (seq (block (loop turn)) after) p)
-  looped known room room₁ Θ {after} {p} ended =
-      whiles ! 𝓣 (λ (t : At). m ys ws - t .0) (λ t. ‵ (row R fullShare (takenTo ys ws (t .0)) b o) ∷ At-turn (t .0) none []) Θ (0, zero-le) (λ t Q again out.
-      -- [the records; the words; _0; _1; ..]
-      let i : ℕ = t .0 in
-      let v : ℕ = getD ws i 0 in
-      sets ! (bin ! (var ! 6 refl refl) (var ! 5 refl refl) tt) 13 refl refl (tt, tt) $
-      tests ! (var ! 13 refl refl) (λ more.
-      let l : i < m ys ws = ltb→lt i (m ys ws) more in
-      let below = in-room-below (length ys) (length ws) i l in
-      let l′ : i < length (takenTo ys ws i) = omega (arith, below .0, length-taken ys ws i (omega (arith, below .0))) in
-      let fits : i + 1 < 2 ^ 64 = omega (arith, below .0, room .0) in
-      move ! (1 ∷ 0 ∷ []) $ copies ! half half-sized q′ ws i (length ws) 0 b₁ o₁ (below .1) (room₁ .1) (below .1) (var ! 6 refl refl) (from ! (stop !)) (λ wt. init ! 14 refl wt) (start ! 4 refl refl) (var ! 14 refl refl) (from ! (stop !)) (init ! 15 refl (tt, tt)) (from ! (hop ! (look ! 17 refl) (stop !))) (from ! (stop !)) (λ wt. init ! 18 refl wt) (λ is-v. move ! (1 ∷ 0 ∷ []) $
-      sets ! (of-opd ! (var ! 16 refl refl)) 7 refl refl (half .typed 𝓤 H A W v is-v) $
-      calls-value ! (fmOf 𝓤 H (W .laws) 𝓣) (half ∷ []) flag (λ _. emp 𝓤) (λ a. isHigh (a .0)) (known .high) (v, tt) (is-v, tt) (id⊢ 𝓤 _) (and-then ! (var ! 8 refl refl) (no-more !)) (λ is-h wt-h. lands-in ! 17 refl refl wt-h $
-      meets ! 0 (‵ (row R fullShare (takenTo ys ws (i + 1)) b o)) (var ! 17 refl refl)
-      (λ p k yes. far i v is-v _ _ _ _ _ Θ p room (below .0) l′ (taken-more ys ws i (below .0)) known k yes)
-      (λ p k no. near i v is-v _ _ _ _ _ Θ p room (below .0) l′ (taken-more ys ws i (below .0)) known k)
-      (assigns-last ! (bin ! (var ! 6 refl refl) (lit ! tt) (record { fits = fits })) (from ! (stop !)) (store ! 6 refl (tt, record { fits = fits })) $
-      forget ! 7 refl $ forget ! 13 refl $ forget ! 14 refl $ forget ! 15 refl $ forget ! 16 refl $ forget ! 17 refl $ again (i + 1, omega (arith, l)) (omega (arith, l))))))
-      (λ stops. out _ $ subst (λ (j : ℕ). Sq W (‵ (row R fullShare (takenTo ys ws j) b o) ∷ (At-turn j none (some (vbool (ltb j (m ys ws))) ∷ []) ++ Θ)) (runs (𝓣 .C) (𝓣 .Λ) (envOf ls l) after p)) (sym (le-antisymm (t .1) (nltb→le i (m ys ws) stops))) ended))
+          forget ! 24 refl $ forget ! 25 refl $ forget ! 26 refl $ forget ! 27 refl $ forget ! 28 refl $ forget ! 29 refl $ k)))
 
 module _ {M : Type 1} (𝓤 : URA M) (H : Heap 𝓤) (A : Atoms 𝓤) (W : Given 𝓤 H A) (mem : Memory → SProp 𝓤) (run : Routine → Fun 𝓤) (κ κ₁ : Lft) (q q₁ : Share) (b o : ℕ) (γ : GName) (ys : List Device) (b₁ o₁ : ℕ) (γ₁ : GName) (ws : List ℕ) where
   abbrev ref : List Device → RefT (List Device)
@@ -175,20 +149,28 @@ module _ {M : Type 1} (𝓤 : URA M) (H : Heap 𝓤) (A : Atoms 𝓤) (W : Given
       (and-then ! (var ! 10 refl refl) (and-then ! (var ! 11 refl refl) (no-more !))) (λ is-m wt-m. lands-in ! 3 refl refl wt-m $
       sets ! (of-opd ! (lit ! tt)) 4 refl refl (tt, record { fits = lit< tt }) $
       move ! (41 ∷ 40 ∷ []) $ fsplit ! $ fsplit ! $ pureL ! (at-slice R (ref ys) (slice-vals (ref ys))) (λ _. fsplit ! $ move ! (3 ∷ []) $ split ! $ move ! (2 ∷ 3 ∷ 0 ∷ []) $ opens-slice ! tt R ys b o $
-      -- [the records; the open borrow; obs; auth; the other token; what words owns; _0; _1; ..]
-      move ! (5 ∷ []) $ fsplit ! $ fsplit ! $ pureL ! (at-slice S lent (slice-vals lent)) (λ _. fsplit ! $ move ! (7 ∷ []) $ split ! $ move ! (3 ∷ 0 ∷ []) $
-      looks-slice ! tt S (Is S) (shows 𝓤 H A S) (λ d. half .val d ∷ []) (half .tells) (uint-copy 𝓤 H A W w16) ws b₁ o₁ (λ q′.
-      -- [the words; their open borrow; the borrow; true; res; true; the records; the open borrow; obs; auth; _0, from 10; ..]
-      rewrite ! 6 (λ (l : List Device). ‵ (row R fullShare l b o)) (taken-start ys ws) refl $ move ! (6 ∷ 0 ∷ span 10 40) $
-      looped 𝓤 H A W mem run 𝓣 b o ys b₁ o₁ ws l q′ known room room₁ _ (
-      let long′ : length (takenTo ys ws (m ys ws)) ≡ length ys = length-taken ys ws (m ys ws) (in-room-le (length ys) (length ws)) in
-      sets ! (of-opd ! (unit-lit !)) 2 refl refl (tt, tt) $
-      -- [the records; the words; _0; ..; _38; that they die, from 41; the words' open borrow; the borrow; true; res; true; the open borrow; obs; auth]
-      move ! (0 ∷ 47 ∷ 48 ∷ 49 ∷ []) $ closes-slice ! tt R ys (takenTo ys ws (m ys ws)) long′ b o $ move ! (3 ∷ 44 ∷ []) $ shuts-slice ! tt S q′ ws b₁ o₁ $
-      returns ! (look ! 4 refl) $ move ! (span 4 40) $ leaves W dies (some _ ∷ some _ ∷ some _ ∷ some _ ∷ some _ ∷ none ∷ none ∷ none ∷ none ∷ some _ ∷ some _ ∷ some _ ∷ []) ! $ keep ! (0 ∷ 1 ∷ 2 ∷ 3 ∷ []) $
+      rewrite ! 0 (λ (l : List Device). ‵ (row R fullShare l b o)) (taken-start ys ws) refl $ move ! (5 ∷ []) $ fsplit ! $ move ! (6 ∷ []) $ split ! $
+      -- [the words' token; true; what words owns; true; the records; their open borrow; obs; auth; _0, at 8; ..; _38; that they die]
+      let spots : Spots 𝓤 H half (named 1) (envOf ls l) 2 3 4 11 12 13 14 = record { at = λ k. getD (l 2 ∷ l 3 ∷ l 4 ∷ l 11 ∷ l 12 ∷ l 13 ∷ l 14 ∷ []) k 0; slice = refl; end = refl; count = refl; test = refl; scaled = refl; pointer = refl; copied = refl } in
+      move ! (0 ∷ 2 ∷ 10 ∷ 11 ∷ 12 ∷ 19 ∷ 20 ∷ 21 ∷ 22 ∷ 4 ∷ 9 ∷ 13 ∷ 14 ∷ 15 ∷ 16 ∷ (span 24 23 ++ (23 ∷ []))) $
+      goes-over spots half-sized ! 𝓣 lent room₁ (m ys ws) (λ i l′. in-room-below (length ys) (length ws) i l′ .1) (λ _. Unit {0}) tt (λ i. ‵ (row R fullShare (takenTo ys ws i) b o) ∷ held 𝓤 (ways l ++ ((tyBool, l 15) ∷ [])) (some (sliceVal (b, o) (length ys)) ∷ [])) _ (λ q′ B i l′ _ Q next.
+      let v : ℕ = getD ws i 0 in
+      let below = in-room-below (length ys) (length ws) i l′ in
+      let l″ : i < length (takenTo ys ws i) = omega (arith, below .0, length-taken ys ws i (omega (arith, below .0))) in
+      -- [the words; their open borrow; _2; _3; _4; _11; ..; _14; the records; _1; _5; ..; _8; _16; ..; _38; _15]
+      copies-out spots half-sized ! q′ lent i 0 (below .1) room₁ (λ is-v. sets ! (of-opd ! (var ! 8 refl refl)) 11 refl refl (half .typed 𝓤 H A W v is-v) $
+      calls-value ! (fmOf 𝓤 H (W .laws) 𝓣) (half ∷ []) flag (λ _. emp 𝓤) (λ a. isHigh (a .0)) (known .high) (v, tt) (is-v, tt) (id⊢ 𝓤 _) (and-then ! (var ! 12 refl refl) (no-more !)) (λ is-h wt-h. lands-in ! 38 refl refl wt-h $ move ! (9 ∷ 4 ∷ span 10 28) $
+      meets ! 0 (‵ (row R fullShare (takenTo ys ws (i + 1)) b o)) (var ! 38 refl refl)
+      (λ p k yes. far 𝓤 H A W mem run 𝓣 b o ys ws l i v is-v _ p room (below .0) l″ (taken-more ys ws i (below .0)) known k yes)
+      (λ p k no. near 𝓤 H A W mem run 𝓣 b o ys ws l i v is-v _ p room (below .0) l″ (taken-more ys ws i (below .0)) known k)
+      (move ! (30 ∷ 31 ∷ 32 ∷ 33 ∷ 1 ∷ 34 ∷ 35 ∷ 36 ∷ 37 ∷ 0 ∷ []) $ forget ! 11 refl $ forget ! 38 refl $ next tt _ _))))
+      -- [the words' token; _2; _3; _4; _11; ..; _14; the records, at 8; _1; _5; ..; _8; _16; ..; _38; _15; true; true; their open borrow, at 40; obs; auth; _0; _9; _10; that they die]
+      (λ _. let long′ : length (takenTo ys ws (m ys ws)) ≡ length ys = length-taken ys ws (m ys ws) (in-room-le (length ys) (length ws)) in
+      sets ! (of-opd ! (unit-lit !)) 43 refl refl (tt, tt) $ move ! (8 ∷ 40 ∷ 41 ∷ 42 ∷ []) $ closes-slice ! tt R ys (takenTo ys ws (m ys ws)) long′ b o $ returns ! (look ! 42 refl) $
+      move ! (42 ∷ 11 ∷ 4 ∷ 5 ∷ 6 ∷ 12 ∷ 13 ∷ 14 ∷ 15 ∷ 43 ∷ 44 ∷ 7 ∷ 8 ∷ 9 ∷ 10 ∷ 39 ∷ (span 16 23 ++ (45 ∷ []))) $ leaves W dies (some _ ∷ some _ ∷ some _ ∷ some _ ∷ some _ ∷ none ∷ none ∷ none ∷ none ∷ some _ ∷ some _ ∷ some _ ∷ []) ! $ keep ! (3 ∷ 0 ∷ 1 ∷ 2 ∷ []) $
       suffices ! _ (ends-at 𝓤 H A take-words.ended stayed (take-words.clauses 𝓤 H A mem run) W (y, tt) vunit tt (takenTo ys ws (m ys ws), (tt, tt)) (long′, (tt, tt))) $ says ! refl $
       nothing ! $ move ! (1 ∷ 0 ∷ []) $ join ! $ move ! (3 ∷ 0 ∷ []) $ join ! $ frame ! $ fjoin ! $ pureI ! (at-slice R (ref (takenTo ys ws (m ys ws))) (slice-vals (ref ys))) (tt, (tt, tt)) (ap (λ (k : ℕ). sliceVal (b, o) k ∷ []) (sym long′), subst (Room R) (sym long′) room) $
-      fjoin ! $ nothing ! $ nothing ! $ fjoin ! $ move ! (1 ∷ 0 ∷ []) $ fjoin ! $ frame ! $ feqI ! (List Val) (vunit ∷ []) (vunit ∷ []) refl $ done !))))))
+      fjoin ! $ nothing ! $ nothing ! $ fjoin ! $ move ! (1 ∷ 0 ∷ []) $ fjoin ! $ frame ! $ feqI ! (List Val) (vunit ∷ []) (vunit ∷ []) refl $ done !))))
 
 pub take-words-spec : {M : Type 1} → take-words.Statement.statement M
 unfolding take-words.Code.routine tablesOf

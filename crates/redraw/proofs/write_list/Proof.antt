@@ -11,10 +11,10 @@ use Rattle.pass.proofs.to_pass as look′
 use Rattle.planner.specs.OneDriver.{withDriver, listTo}
 use Rattle.planner.proofs.Listed.{length-listed}
 use Rattle.planner.proofs.write_driver as writing
-use Rattle.lent.proofs.Records.{size, byte, half, device}
+use Rattle.lent.proofs.Records.{size, byte, half, device, device-sized}
 use Rattle.lent.proofs.Locals.{values, envOf, held, starts, leaves, var, sets, lands-in, count, target}
 use Rattle.lent.proofs.Arrays.{row-lent, row-back}
-use Rattle.lent.proofs.Chain.{chainTy, Spots, goes-over, copies-out}
+use Rattle.lent.proofs.Slices.{sharedTy, Spots, goes-over, copies-out}
 use Rattle.lent.proofs.Walk.{Walk, has-data, calls-value, calls-fn, proves}
 use Rattle.redraw.proofs.write_list as write-list
 
@@ -32,7 +32,7 @@ listTy r = sliceTy (tyRef r mut (pointee (S .written)))
 
 -- the locals
 abbrev locals : List Local
-locals = values (tyUnit ∷ chainTy ∷ byte .ty ∷ sliceTy (tyRef (named 1) imm (pointee (byte .row .written))) ∷ listTy (named 2) ∷ size .ty ∷ size .ty ∷ size .ty ∷ size .ty ∷ tyBool ∷ tyUnit ∷ tyRef erased mut (pointee (S .written)) ∷ listTy erased ∷ size .ty ∷ tyPtr ∷ device .ty ∷ [])
+locals = values (tyUnit ∷ sharedTy device (named 0) ∷ byte .ty ∷ sliceTy (tyRef (named 1) imm (pointee (byte .row .written))) ∷ listTy (named 2) ∷ size .ty ∷ size .ty ∷ size .ty ∷ size .ty ∷ tyBool ∷ tyUnit ∷ tyRef erased mut (pointee (S .written)) ∷ listTy erased ∷ size .ty ∷ tyPtr ∷ device .ty ∷ [])
 
 -- a unit result's machine value
 unit-typed : (w : Val) → w ∷ [] ≡ vunit ∷ [] → Holds (hasTy tyUnit w) × WT w
@@ -113,18 +113,18 @@ module _ {M : Type 1} (𝓤 : URA M) (H : Heap 𝓤) (A : Atoms 𝓤) (W : Given
       move ! (5 ∷ []) $ split ! $ move ! (1 ∷ []) $ split ! $ move ! (1 ∷ []) $ split ! $ move ! (2 ∷ 1 ∷ []) $ join ! $ move ! (3 ∷ 4 ∷ 1 ∷ []) $ opens-slice ! tt S ws b₁ o₁ $
       -- [the list; its open borrow; obs; auth; κ₁; κ; what k owns; wanted; what the chain owns; _0, at 9; ..; _15; that they die]
       rewrite ! 0 (λ (l : List ℕ). ‵ (row S fullShare l b₁ o₁)) (list-start ys (wanted .now) ws k) refl $
-      let spots : Spots 𝓤 H (envOf locals l) 1 7 8 9 13 14 15 = record { at = λ k. getD (l 1 ∷ l 7 ∷ l 8 ∷ l 9 ∷ l 13 ∷ l 14 ∷ l 15 ∷ []) k 0; chain = refl; end = refl; count = refl; test = refl; scaled = refl; pointer = refl; copied = refl } in
+      let spots : Spots 𝓤 H device (named 0) (envOf locals l) 1 7 8 9 13 14 15 = record { at = λ k. getD (l 1 ∷ l 7 ∷ l 8 ∷ l 9 ∷ l 13 ∷ l 14 ∷ l 15 ∷ []) k 0; slice = refl; end = refl; count = refl; test = refl; scaled = refl; pointer = refl; copied = refl } in
       move ! (5 ∷ 8 ∷ 10 ∷ 16 ∷ 17 ∷ 18 ∷ 22 ∷ 23 ∷ 24 ∷ 0 ∷ 7 ∷ 4 ∷ 13 ∷ 12 ∷ 15 ∷ 14 ∷ 19 ∷ 20 ∷ 21 ∷ []) $
-      goes-over spots ! 𝓣 x room m (pass-below number n) (λ _. Unit {0}) tt (λ i. ‵ (row S fullShare (vs i) b₁ o₁) ∷ Wanted 𝓤 κ₁ wanted ∷ Toks 𝓤 κ₁ q₁ ∷ held 𝓤 ((listTy (named 2), l 4) ∷ (sliceTy (tyRef (named 1) imm (pointee (byte .row .written))), l 3) ∷ (size .ty, l 6) ∷ (size .ty, l 5) ∷ (tyUnit, l 10) ∷ (tyRef erased mut (pointee (S .written)), l 11) ∷ (listTy erased, l 12) ∷ [])
+      goes-over spots device-sized ! 𝓣 x room m (pass-below number n) (λ _. Unit {0}) tt (λ i. ‵ (row S fullShare (vs i) b₁ o₁) ∷ Wanted 𝓤 κ₁ wanted ∷ Toks 𝓤 κ₁ q₁ ∷ held 𝓤 ((listTy (named 2), l 4) ∷ (sliceTy (tyRef (named 1) imm (pointee (byte .row .written))), l 3) ∷ (size .ty, l 6) ∷ (size .ty, l 5) ∷ (tyUnit, l 10) ∷ (tyRef erased mut (pointee (S .written)), l 11) ∷ (listTy erased, l 12) ∷ [])
       (some (sliceVal (b₁, o₁) (length ws)) ∷ some (sliceVal (wanted .ptr) (length (wanted .now))) ∷ some (size .val n) ∷ some (size .val k) ∷ [])) _ (λ q′ B i l′ good Q next.
       let below = pass-below number n i l′ in
       -- [the records; their open borrow; _1; _7; _8; _9; _13; ..; _15; the list; wanted; κ₁; _4; _3; _6; _5; _10; ..; _12]
       sets ! (target ! 12 refl refl) 17 refl refl (tt, tt) $ sets ! (agg ! (and-then ! (var ! 17 refl refl) (and-then ! (count ! 12 refl refl) (no-more !)))) 18 refl refl (tt, (tt, (record { fits = room₂ .0 }, tt))) $
       rewrite ! 18 (λ (j : ℕ). ‵ (fat fullShare (listTy erased) (l 12) 0 (sliceVal (b₁, o₁) j))) (sym (long i)) refl $
-      copies-out spots ! q′ x i below room (λ is-e. move ! (9 ∷ 10 ∷ 11 ∷ []) $
+      copies-out spots device-sized ! q′ x i powerUp below room (λ is-e. move ! (9 ∷ 10 ∷ 11 ∷ []) $
       writes ! (fmOf 𝓤 H (W .laws) 𝓣) mem run known-writing κ₁ q₁ wanted b₁ o₁ (vs i) (subst (Room S) (sym (long i)) room₂) n k i (getD ys i powerUp) (refl, room .0) is-k (refl, omega (arith, below, room .0)) is-e
       (λ ν δ. and-then ! (var ! 18 refl refl) (and-then ! (var ! 13 refl refl) (and-then ! (var ! 14 refl refl) (and-then ! (var ! 15 refl refl) (and-then ! (var ! 7 refl refl) (and-then ! (var ! 11 refl refl) (no-more !))))))) (λ w unit.
-      rewrite ! 0 (λ (l : List ℕ). ‵ (row S fullShare l b₁ o₁)) (list-more ys (wanted .now) ws k i) refl $ lands-in ! 16 refl refl (unit-typed w unit) $ forget ! 16 refl $ forget ! 17 refl $ forget ! 18 refl $ move ! (3 ∷ 4 ∷ 5 ∷ 6 ∷ 7 ∷ 8 ∷ 9 ∷ 10 ∷ 11 ∷ 0 ∷ 2 ∷ []) $ next tt _)))
+      rewrite ! 0 (λ (l : List ℕ). ‵ (row S fullShare l b₁ o₁)) (list-more ys (wanted .now) ws k i) refl $ lands-in ! 16 refl refl (unit-typed w unit) $ forget ! 16 refl $ forget ! 17 refl $ forget ! 18 refl $ move ! (3 ∷ 4 ∷ 5 ∷ 6 ∷ 7 ∷ 8 ∷ 9 ∷ 10 ∷ 11 ∷ 0 ∷ 2 ∷ []) $ next tt _ _)))
       -- [κ; _1; _7; _8; _9; _13; ..; _15; the list, at 8; wanted; κ₁; _4; _3; _6; _5; _10; ..; _12; its open borrow; obs; auth; what k owns; _0, at 22; _2; that they die]
       (λ _. sets ! (of-opd ! (unit-lit !)) 22 refl refl (tt, tt) $ move ! (8 ∷ 18 ∷ 19 ∷ 20 ∷ []) $ closes-slice ! tt S ws (vs m) (long m) b₁ o₁ $ returns ! (look ! 21 refl) $
       move ! (21 ∷ 4 ∷ 22 ∷ 14 ∷ 13 ∷ 16 ∷ 15 ∷ 5 ∷ 6 ∷ 7 ∷ 17 ∷ 18 ∷ 19 ∷ 8 ∷ 9 ∷ 10 ∷ 23 ∷ []) $ leaves W dies (some _ ∷ some _ ∷ some _ ∷ some _ ∷ some _ ∷ some _ ∷ some _ ∷ some _ ∷ some _ ∷ some _ ∷ []) ! $ keep ! (3 ∷ 0 ∷ 1 ∷ 2 ∷ 5 ∷ []) $

@@ -70,6 +70,7 @@ module _ {n : ℕ} (σ : List ℕ) (q : BusCall) {b : Bus} {ds : List Device} (w
       named : Named n (next n σ q (stateOf b))
       named = next-named n σ q (stateOf b) (state-named n b (w .bus))
 
-      go : (a : Bool) → (soundBus n (if a (busOf (next n σ q (stateOf b))) b) ≡ true) × (stateOf (if a (busOf (next n σ q (stateOf b))) b) ≡ if a (next n σ q (stateOf b)) (stateOf b))
+      go : (a : Bool) → (soundBus n (if a (busOf (next n σ q (stateOf b))) b) ≡ true)
+          × (stateOf (if a (busOf (next n σ q (stateOf b))) b) ≡ if a (next n σ q (stateOf b)) (stateOf b))
       go true = (bus-sound n (next n σ q (stateOf b)) named, state-bus n (next n σ q (stateOf b)) named)
       go false = (w .bus, refl)

@@ -57,11 +57,11 @@ module _ (n i : ℕ) (σ rest : List ℕ) (sixteen : length σ ≡ 16) (h : 1 �
     state-now a = bus-kept σ q (now .whole) .1 ∙ rw a
 
     turn-now : turnOf i (stateOf (busAfter σ q b ds)) ≡ follows n σ i q (turnOf i (stateOf b))
-    turn-now = ap (turnOf i) (bus-kept σ q (now .whole) .1) ∙ go (accepted n σ q) refl
+    turn-now = rw (bus-kept σ q (now .whole) .1) (go (accepted n σ q) refl (stateOf b))
       where
-        go : (x : Bool) → accepted n σ q ≡ x → turnOf i (if x (next n σ q (stateOf b)) (stateOf b)) ≡ if x (turnNext σ i q (turnOf i (stateOf b))) (turnOf i (stateOf b))
-        go true a = turn-follows n i σ rest sixteen h g q (stateOf b) a
-        go false a = refl
+        go : (x : Bool) → accepted n σ q ≡ x → (s : State) → turnOf i (if x (next n σ q s) s) ≡ if x (turnNext σ i q (turnOf i s)) (turnOf i s)
+        go true a s = turn-follows n i σ rest sixteen h g q s a
+        go false a s = refl
 
     -- the lone part is given the call
     record Heard : Type 0 where
@@ -103,8 +103,9 @@ module _ (n i : ℕ) (σ rest : List ℕ) (sixteen : length σ ≡ 16) (h : 1 �
         go : (x : Bool) → accepted n σ q ≡ x → Passed
         go true a =
             let o = rw a at e in
+            let m = state-named n b (now .whole .bus) in
             record {
-              left = rw (parts-by σ q (now .whole), a) (call-other n i σ rest sixteen h g ds (now .whole .count) q (stateOf b) qs (state-named n b (now .whole .bus)) a o);
+              left = rw (parts-by σ q (now .whole), a) (call-other n i σ rest sixteen h g ds (now .whole .count) q (stateOf b) qs m a o);
               seen = rw (turn-now, a, state-now a) (seen-other q qs (stateOf b) (stateOf lb) a o (now .seen));
             }
         go false a =
@@ -137,7 +138,8 @@ module _ (n i : ℕ) (σ rest : List ℕ) (sixteen : length σ ≡ 16) (h : 1 �
       }
   told-more q qs b lb ds now more false e =
       let f = step-passed q qs b lb ds now e in
-      let then : At qs (busAfter σ q b ds) lb (partsAfter σ q b ds) = record { whole = sound-after σ q (now .whole); lone = rw (f .left) (now .lone); seen = f .seen } in
+      let then : At qs (busAfter σ q b ds) lb (partsAfter σ q b ds) =
+      record { whole = sound-after σ q (now .whole); lone = rw (f .left) (now .lone); seen = f .seen } in
       let r = rw (turn-now q qs b lb ds now) at (more _ _ _ then) in
       record {
         numbered = rw (number-alone σ q (now .whole), r .numbered);

@@ -29,7 +29,9 @@ place-own a (s ∷ ss) e (suc k) h = go (eqb s a) refl ∙ place-own a ss (and-r
     go true t =
         let z : placeOf a ss ≡ 0 = rw (eqb-true s a t) at (eqb-true (placeOf s ss) 0 (and-left (eqb (placeOf s ss) 0) (distinct ss) e)) in
         same-test 1 (suc (suc k)) (placeOf a ss) (suc k) (λ p. omega arith) (λ p. omega arith)
-    go false t = same-test (further (placeOf a ss)) (suc (suc k)) (placeOf a ss) (suc k) (λ p. omega (arith, further-is (placeOf a ss))) (λ p. omega (arith, further-is (placeOf a ss)))
+    go false t =
+        let f = further-is (placeOf a ss) in
+        same-test (further (placeOf a ss)) (suc (suc k)) (placeOf a ss) (suc k) (λ p. omega arith) (λ p. omega arith)
 
 place-le : (a : ℕ) (ss : List ℕ) → placeOf a ss ≤ length ss
 unfolding placeOf

@@ -83,10 +83,8 @@ call-own i (access c sent room) ds s f h g = decided-own i (access c sent room) 
 call-own i (give j x) ds s f h g = decided-own i (give j x) ds s refl f h g
 call-own i (ask j x) ds s f h g = decided-own i (ask j x) ds s refl f h g
 call-own i (askChain x) ds s f h g =
-    record {
-      left = rw (after-same (askChain x) ds refl) (elim (accepted (length ds) (askChain x)) as (λ b. recordOf ds i ≡ if b (recordOf ds i) (recordOf ds i)) [ true ↦ refl | false ↦ refl ]);
-      back = refl;
-    }
+    let same = elim (accepted (length ds) (askChain x)) as (λ b. recordOf ds i ≡ if b (recordOf ds i) (recordOf ds i)) [ true ↦ refl | false ↦ refl ] in
+    record { left = rw (after-same (askChain x) ds refl) same; back = refl }
 
 call-number : (n : ℕ) (q : Call) (ds : List Device) → length ds ≡ n → allSound ds ≡ true → ownNumber q (number q ds) ≡ ownNumber q (refusalAlone n q)
 call-number n (access c sent room) ds l s = ap (λ (k : ℕ). k ∷ []) (number-alone n (access c sent room) ds l s refl)

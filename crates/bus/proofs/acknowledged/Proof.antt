@@ -1,7 +1,6 @@
 -- `bus::acknowledged` meets its contract. Assumes nothing.
 use Rattle.bus.proofs.Bytes.{acknowledged}
-use Rattle.bus.proofs.acknowledged.Statement.{statement}
 use Rattle.bus.proofs.acknowledged.Tie as tie
 
-pub acknowledged-spec : {M : Type 1} → statement M
+pub acknowledged-spec : {M : Type 1} → Rattle.bus.proofs.acknowledged.Statement.statement M
 acknowledged-spec = tie.close (tie.spec (λ c. acknowledged))

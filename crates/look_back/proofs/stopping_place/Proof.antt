@@ -4,7 +4,6 @@ use Rattle.ground.proofs.Names.{_-_, _≤_, arith, _≡_, sym, ap, _∙_, lengt
 use Rattle.look_back.specs.Stops.{lastPlace}
 use Rattle.look_back.specs.Masks.{stopsUnder}
 use Rattle.look_back.proofs.PlaceLaws.{stops-at, goes-on, no-words}
-use Rattle.look_back.proofs.stopping_place.Statement.{statement}
 use Rattle.look_back.proofs.stopping_place.Tie as tie
 
 abbrev Inv-loop : tie.InvT-loop
@@ -69,7 +68,7 @@ returns-5 c =
     let l = c .before .before .loop in
     sym (l .inv .1 ∙ no-words (stopsUnder (a .mask) (a .pattern)) (a .words .now) (l .k) (omega (arith, c .if3 .left)))
 
-pub stopping-place-spec : {M : Type 1} → statement M
+pub stopping-place-spec : {M : Type 1} → Rattle.look_back.proofs.stopping_place.Statement.statement M
 stopping-place-spec =
     tie.close
     (tie.spec Inv-loop μ-loop loop-holds (λ c. omega arith) (λ c. omega arith) (λ c. omega arith) (λ c κs. search needs) returns (λ c. omega arith)

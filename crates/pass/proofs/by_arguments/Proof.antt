@@ -1,12 +1,11 @@
 -- `pass::by_arguments` meets its contract. Assumes nothing.
 use Rattle.ground.proofs.Names.{needs}
 use Rattle.refusals.proofs.RefusalLaws.{first-last}
-use Rattle.pass.proofs.by_arguments.Statement.{statement}
 use Rattle.pass.proofs.by_arguments.Tie as tie
 
 returns : tie.Need-returns
 returns c = simp (first-last, c .before .before .before .driver-refusal .ensures, c .before .before .first-of .ensures, c .before .chain-refusal .ensures, c .first-of2 .ensures)
 
-pub by-arguments-spec : {M : Type 1} → statement M
+pub by-arguments-spec : {M : Type 1} → Rattle.pass.proofs.by_arguments.Statement.statement M
 by-arguments-spec =
     tie.close (tie.spec (λ c κs. search needs) (λ c κs. search needs) (λ c κs. search needs) (λ c κs. search needs) returns)

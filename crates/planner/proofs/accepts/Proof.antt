@@ -1,7 +1,6 @@
 -- `planner::accepts` meets its contract. Assumes nothing.
 use Rattle.ground.proofs.Names.{ℕ, _/_, arith, Bool, true, false, _&&_, and-assoc, _≡_, ltb, length, ltb-true, and-left, and-right}
 use Rattle.planner.proofs.CheckLaws.{words-planes}
-use Rattle.planner.proofs.accepts.Statement.{statement}
 use Rattle.planner.proofs.accepts.Tie as tie
 
 -- what is tested: those before accept, and the place is in range
@@ -31,5 +30,5 @@ returns-2 c =
     let h : tested (s .each) (s .i) (s .n) (length (s .wanted .now)) ≡ false = c .if1 .left in
     rw (← and-assoc, h)
 
-pub accepts-spec : {M : Type 1} → statement M
+pub accepts-spec : {M : Type 1} → Rattle.planner.proofs.accepts.Statement.statement M
 accepts-spec = tie.close (tie.spec own-accepted-requires returns returns-2)

@@ -3,7 +3,6 @@ use Rattle.ground.proofs.Names.{arith, needs}
 use Rattle.digits.specs.Digits.{cleared}
 use Rattle.plans.specs.Lists.{wantedAt}
 use Rattle.plans.proofs.Potential.{needs-le}
-use Rattle.planner.proofs.least.Statement.{statement}
 use Rattle.planner.proofs.least.Tie as tie
 
 add-anew : tie.Need-add-anew
@@ -17,6 +16,6 @@ returns c = omega (arith, rw (c .before .before .cleared-if .ensures) at (c .bef
 returns-2 : tie.Need-returns-2
 returns-2 c = omega (arith, rw (c .before .before .cleared-if .ensures) at (c .before .plain2 .ensures))
 
-pub least-spec : {M : Type 1} → statement M
+pub least-spec : {M : Type 1} → Rattle.planner.proofs.least.Statement.statement M
 least-spec =
     tie.close (tie.spec (λ c κs. search needs) (λ c κs. search needs) (λ c κs. search needs) add-anew returns returns-2)

@@ -1,14 +1,13 @@
 -- `planner::need` meets its contract. Assumes nothing.
 use Rattle.ground.proofs.Names.{_≤_, arith, Bool, true, false, eqb, needs, ne-eqb, eq-eqb}
 use Rattle.plans.specs.Least.{wrong}
-use Rattle.planner.proofs.need.Statement.{statement}
 use Rattle.planner.proofs.need.Tie as tie
 
 wrong-le : (b : Bool) → wrong b ≤ 1
 wrong-le true = omega arith
 wrong-le false = omega arith
 
-pub need-spec : {M : Type 1} → statement M
+pub need-spec : {M : Type 1} → Rattle.planner.proofs.need.Statement.statement M
 need-spec =
     tie.close
     (tie.spec (λ c κs. search needs) (λ c κs. search needs)

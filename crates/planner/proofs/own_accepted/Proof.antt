@@ -3,7 +3,6 @@ use Rattle.ground.proofs.Names.{ℕ, _+_, _*_, _-_, _≤_, _<_, add-one, suc-mu
 use Rattle.plans.specs.Lists.{wantedAt, wordsAt}
 use Rattle.planner.specs.OneDriver.{fromPlanes}
 use Rattle.planner.proofs.CheckLaws.{same-plain, word-taken, word-refused, words-done, place-in}
-use Rattle.planner.proofs.own_accepted.Statement.{statement}
 use Rattle.planner.proofs.own_accepted.Tie as tie
 
 abbrev Inv-loop : tie.InvT-loop
@@ -45,7 +44,7 @@ returns-2 c =
     let l = c .before .before .loop in
     rw (c .plain .ensures) (sym (l .inv .4 ∙ words-done _ _ (l .p) (s .list .now) (s .n) (s .i) (l .a) (omega arith) ∙ same-plain (l .p) _))
 
-pub own-accepted-spec : {M : Type 1} → statement M
+pub own-accepted-spec : {M : Type 1} → Rattle.planner.proofs.own_accepted.Statement.statement M
 own-accepted-spec =
     tie.close
     (tie.spec Inv-loop μ-loop (λ c. search needs) loop-holds (λ c. let l = c .before .loop in omega (arith, l .inv .2 (l .a) (omega arith)))

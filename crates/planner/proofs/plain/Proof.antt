@@ -4,7 +4,6 @@ use Rattle.plans.specs.Least.{total, needAt}
 use Rattle.plans.specs.Lists.{wantedAt}
 use Rattle.plans.proofs.Potential.{need-le, needs-le}
 use Rattle.planner.proofs.WantedLaws.{wanted-p0, wanted-p1}
-use Rattle.planner.proofs.plain.Statement.{statement}
 use Rattle.planner.proofs.plain.Tie as tie
 
 abbrev Inv-loop : tie.InvT-loop
@@ -35,7 +34,7 @@ loop-again c =
 returns : tie.Need-returns Inv-loop μ-loop
 returns c = let e : c .before .loop .k ≡ 16 = omega arith in c .before .loop .inv .1 ∙ rw e
 
-pub plain-spec : {M : Type 1} → statement M
+pub plain-spec : {M : Type 1} → Rattle.planner.proofs.plain.Statement.statement M
 plain-spec =
     tie.close
     (tie.spec Inv-loop μ-loop (λ c. search needs) loop-holds (λ c. search needs) (λ c. search needs) (λ c. search needs) (λ c. search needs) (λ c. search needs)

@@ -1,6 +1,5 @@
 -- `planner::wanted_refusal` meets its contract. Assumes nothing.
 use Rattle.ground.proofs.Names.{ℕ, _*_, _/_, _%_, arith, Bool, true, false, _&&_, _≡_, refl, eqb, eqb-true, eqb-false, eq-eqb, ne-eqb, tests}
-use Rattle.planner.proofs.wanted_refusal.Statement.{statement}
 use Rattle.planner.proofs.wanted_refusal.Tie as tie
 
 -- so many bytes, without their product, which might not fit
@@ -12,6 +11,6 @@ whole n wanted = go (eqb (wanted / 32) n) (eqb (wanted % 32) 0) refl refl
     go true false e f = ne-eqb wanted (32 * n) (λ z. eqb-false (wanted % 32) 0 f (omega arith))
     go false b e f = ne-eqb wanted (32 * n) (λ z. eqb-false (wanted / 32) n e (omega arith))
 
-pub wanted-refusal-spec : {M : Type 1} → statement M
+pub wanted-refusal-spec : {M : Type 1} → Rattle.planner.proofs.wanted_refusal.Statement.statement M
 wanted-refusal-spec =
     tie.close (tie.spec (λ c. search tests) (λ c. rw (whole, c .before .if1 .left, c .if2 .taken)) (λ c. rw (whole, c .before .if1 .left, c .if2 .left)))

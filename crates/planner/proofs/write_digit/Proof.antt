@@ -5,7 +5,6 @@ use Rattle.plans.specs.Least.{needBy}
 use Rattle.plans.specs.Plan.{put1, wordsBy}
 use Rattle.planner.specs.OneDriver.{put}
 use Rattle.planner.proofs.Puts.{length-put}
-use Rattle.planner.proofs.write_digit.Statement.{statement}
 use Rattle.planner.proofs.write_digit.Tie as tie
 
 one : (b : Bool) → boolByte b ≤ 1
@@ -64,7 +63,7 @@ returns c =
       g .1 ∙ places (a .n) (a .at) (eqb (a .a) (a .x)) (eqb (a .b) (a .y)) (eqb (a .x) (a .y)) .1,
     )
 
-pub write-digit-spec : {M : Type 1} → statement M
+pub write-digit-spec : {M : Type 1} → Rattle.planner.proofs.write_digit.Statement.statement M
 write-digit-spec =
     tie.close
     (tie.spec (λ c. search needs) (λ c. let a = c .before .args in omega (arith, one (eqb (a .x) (a .y) && not (eqb (a .b) (a .y)))))

@@ -8,7 +8,6 @@ use Rattle.plans.proofs.Planner.{length-steps}
 use Rattle.planner.specs.OneDriver.{put}
 use Rattle.planner.proofs.Puts.{length-put, put-append, needs-fit}
 use Rattle.planner.proofs.WantedLaws.{wanted-p0, wanted-p1}
-use Rattle.planner.proofs.write_digits.Statement.{statement}
 use Rattle.planner.proofs.write_digits.Tie as tie
 
 -- a list with the words of the digits below k: there is room for those of digit k, and they make one digit more
@@ -69,7 +68,7 @@ returns c =
     let e : l .k ≡ 16 = omega arith in
     (rw e at (l .inv .2), rw e at (l .inv .1))
 
-pub write-digits-spec : {M : Type 1} → statement M
+pub write-digits-spec : {M : Type 1} → Rattle.planner.proofs.write_digits.Statement.statement M
 write-digits-spec =
     tie.close
     (tie.spec Inv-loop μ-loop (λ c. search needs) loop-holds (λ c. search needs) (λ c. search needs) (λ c. search needs) (λ c. search needs) (λ c. search needs)

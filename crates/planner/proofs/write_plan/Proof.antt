@@ -7,7 +7,6 @@ use Rattle.plans.specs.Lists.{wantedAt}
 use Rattle.plans.proofs.Potential.{needs-le}
 use Rattle.planner.proofs.Puts.{length-put}
 use Rattle.planner.proofs.Room.{kept-many, anew-many, kept-fits, anew-fits}
-use Rattle.planner.proofs.write_plan.Statement.{statement}
 use Rattle.planner.proofs.write_plan.Tie as tie
 
 -- where both numbers of words are known
@@ -72,7 +71,7 @@ returns-4 c =
     let a = start t .args in
     anew-many (a .list .now) (a .n) (a .k) (a .i) (a .held) (a .config) (q t) _ _ (t .before .before .plain .ensures) (anew t) (omega arith) (c .if3 .left)
 
-pub write-plan-spec : {M : Type 1} → statement M
+pub write-plan-spec : {M : Type 1} → Rattle.planner.proofs.write_plan.Statement.statement M
 write-plan-spec =
     tie.close
     (tie.spec (λ c κs. search needs) (λ c κs. search needs) (λ c κs. search needs) add-cleared write-words-requires (λ c κs. search needs) (λ c. search needs)

@@ -1,7 +1,6 @@
 -- `planner::write_waits` meets its contract. The invariant: what is left of the no-ops is to be put from here on. Assumes nothing.
 use Rattle.ground.proofs.Names.{suc, _+_, _*_, _≤_, _<_, _-_, suc-mul, sub-zero, arith, _≡_, refl, length, replicate, length-set, needs}
 use Rattle.planner.specs.OneDriver.{put}
-use Rattle.planner.proofs.write_waits.Statement.{statement}
 use Rattle.planner.proofs.write_waits.Tie as tie
 
 abbrev Inv-loop : tie.InvT-loop
@@ -34,7 +33,7 @@ returns : tie.Need-returns Inv-loop μ-loop
 unfolding put
 returns c = let e : c .before .before .args .count - c .before .loop .k ≡ 0 = omega arith in rw e at (c .before .loop .inv .3)
 
-pub write-waits-spec : {M : Type 1} → statement M
+pub write-waits-spec : {M : Type 1} → Rattle.planner.proofs.write_waits.Statement.statement M
 write-waits-spec =
     tie.close
     (tie.spec Inv-loop μ-loop loop-holds (λ c. omega (arith, room c)) (λ c. omega (arith, room c)) (λ c. omega (arith, room c)) (λ c. search needs)

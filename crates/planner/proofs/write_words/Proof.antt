@@ -2,7 +2,6 @@
 use Rattle.ground.proofs.Names.{add-mul, arith, needs}
 use Rattle.plans.proofs.Planner.{length-steps}
 use Rattle.planner.proofs.Puts.{length-put, put-append}
-use Rattle.planner.proofs.write_words.Statement.{statement}
 use Rattle.planner.proofs.write_words.Tie as tie
 
 write-digits-requires : tie.Need-write-digits-requires
@@ -19,7 +18,7 @@ returns c =
     let w = c .before .before .before .before .before .before .write-digits .ensures in
     rw (put-append, length-steps) (rw (w .0, w .1) at (c .before .before .write-waits .ensures))
 
-pub write-words-spec : {M : Type 1} → statement M
+pub write-words-spec : {M : Type 1} → Rattle.planner.proofs.write_words.Statement.statement M
 write-words-spec =
     tie.close
     (tie.spec write-digits-requires write-waits-requires (λ c. search needs) returns)

@@ -1,7 +1,6 @@
 -- `redraw::bytes_refusal` meets its contract: each return has the tests that led there. Assumes nothing.
 use Rattle.ground.proofs.Names.{_+_, _*_, arith, true, false, _≡_, ltb, needs, lt-ltb, le-ltb}
 use Rattle.redraw.proofs.BytesLaws.{lacks, has}
-use Rattle.redraw.proofs.bytes_refusal.Statement.{statement}
 use Rattle.redraw.proofs.bytes_refusal.Tie as tie
 
 -- past the first two tests there are drivers, and not too many
@@ -31,5 +30,5 @@ returns-4 c = let a = start (c .before .before) .args in simp (some (c .before .
 returns-5 : tie.Need-returns-5
 returns-5 c = let a = start (c .before .before) .args in simp (some (c .before .before), few (c .before .before), there (c .before), le-ltb (a .room) (2 * a .n) (omega arith))
 
-pub bytes-refusal-spec : {M : Type 1} → statement M
+pub bytes-refusal-spec : {M : Type 1} → Rattle.redraw.proofs.bytes_refusal.Statement.statement M
 bytes-refusal-spec = tie.close (tie.spec (λ c. rw (c .if1 .taken)) returns-2 (λ c. search needs) returns-3 (λ c. search needs) returns-4 returns-5)

@@ -3,7 +3,6 @@ use Rattle.ground.proofs.Names.{_+_, _-_, _*_, _≤_, arith, _≡_, sym, _∙_,
 use Rattle.wire.proofs.LineLaws.{bytes-fit}
 use Rattle.redraw.specs.PlanBytes.{bytesNumber}
 use Rattle.redraw.proofs.BytesLaws.{bytes-served}
-use Rattle.redraw.proofs.plan_bytes.Statement.{statement}
 use Rattle.redraw.proofs.plan_bytes.Tie as tie
 
 -- past the test the call is served
@@ -31,7 +30,7 @@ returns-2 c =
     let fit = bytes-fit words (a .bytes .now) (a .n) _ count (s .2) (c .before .before .write-bytes .ensures) in
     (sym (zero-number t), rw (zero-number t) (rw w at fit))
 
-pub plan-bytes-spec : {M : Type 1} → statement M
+pub plan-bytes-spec : {M : Type 1} → Rattle.redraw.proofs.plan_bytes.Statement.statement M
 plan-bytes-spec =
     tie.close
     (tie.spec (λ c κs. search needs) returns (λ c. omega (arith, served c)) (λ c. omega (arith, served c)) (λ c. omega (arith, served c)) (λ c. search needs)

@@ -2,7 +2,6 @@
 use Rattle.ground.proofs.Names.{_≤_, _-_, arith, _≡_, refl, sym, _∙_, length, take, drop, needs, not-true, not-false}
 use Rattle.bus.specs.Straps.{distinct}
 use Rattle.transfers.proofs.Loops.{distinct-next, distinct-end}
-use Rattle.transfers.proofs.distinct.Statement.{statement}
 use Rattle.transfers.proofs.distinct.Tie as tie
 
 abbrev Inv-loop : tie.InvT-loop
@@ -29,7 +28,7 @@ returns-2 c =
     let e : c .before .loop .i ≡ c .before .before .before .args .n = omega arith in
     sym (c .before .loop .inv .1 ∙ rw e (distinct-end (c .before .before .before .args .n) (c .before .before .before .args .straps .addresses)))
 
-pub distinct-spec : {M : Type 1} → statement M
+pub distinct-spec : {M : Type 1} → Rattle.transfers.proofs.distinct.Statement.statement M
 distinct-spec =
     tie.close
     (tie.spec Inv-loop μ-loop loop-holds (λ c. search needs) (λ c. search needs) (λ c κs. search needs) returns (λ c. search needs) (λ c. search needs)

@@ -2,7 +2,6 @@
 use Rattle.ground.proofs.Names.{_≤_, _-_, arith, _≡_, refl, sym, _∙_, length, needs}
 use Rattle.transfers.specs.Transfers.{laterNone}
 use Rattle.transfers.proofs.Loops.{none-next, none-found, none-end}
-use Rattle.transfers.proofs.later_none.Statement.{statement}
 use Rattle.transfers.proofs.later_none.Tie as tie
 
 abbrev Inv-loop : tie.InvT-loop
@@ -29,6 +28,6 @@ returns-2 c =
     let e : c .before .loop .j ≡ c .before .before .args .n = omega arith in
     sym (c .before .loop .inv .1 ∙ rw e (none-end (c .before .before .args .n) (c .before .before .args .t1) (c .before .before .args .a)))
 
-pub later-none-spec : {M : Type 1} → statement M
+pub later-none-spec : {M : Type 1} → Rattle.transfers.proofs.later_none.Statement.statement M
 later-none-spec =
     tie.close (tie.spec Inv-loop μ-loop loop-holds (λ c. search needs) returns (λ c. search needs) (λ c. search needs) loop-again returns-2)

@@ -2,7 +2,6 @@
 use Rattle.ground.proofs.Names.{_≤_, _-_, _/_, arith, _≡_, sym, _∙_, length, take, drop, needs}
 use Rattle.bus.specs.Straps.{placeOf}
 use Rattle.transfers.proofs.Loops.{beyond, place-first, place-next, place-found, place-end}
-use Rattle.transfers.proofs.matched.Statement.{statement}
 use Rattle.transfers.proofs.matched.Tie as tie
 
 abbrev Inv-loop : tie.InvT-loop
@@ -29,6 +28,6 @@ returns-2 c =
     let e : c .before .loop .i ≡ c .before .before .before .args .n = omega arith in
     sym (c .before .loop .inv .1 ∙ rw e (place-end (c .before .before .before .args .n) (c .before .before .before .args .straps .addresses) (c .before .before .before .args .byte / 2)))
 
-pub matched-spec : {M : Type 1} → statement M
+pub matched-spec : {M : Type 1} → Rattle.transfers.proofs.matched.Statement.statement M
 matched-spec =
     tie.close (tie.spec Inv-loop μ-loop loop-holds (λ c. search needs) (λ c. search needs) returns (λ c. search needs) (λ c. search needs) loop-again returns-2)

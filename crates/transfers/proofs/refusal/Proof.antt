@@ -1,7 +1,6 @@
 -- `transfers::refusal` meets its contract. Assumes nothing.
 use Rattle.ground.proofs.Names.{true, false, _≡_, refl, sym, _∙_, length, needs, not-true, not-false}
 use Rattle.transfers.proofs.StrapLaws.{early-decides, part-decides, phase-decides, straps-decide}
-use Rattle.transfers.proofs.refusal.Statement.{statement}
 use Rattle.transfers.proofs.refusal.Tie as tie
 
 returns : tie.Need-returns
@@ -28,6 +27,6 @@ returns-6 c =
     let l : length (c .before .before .before .before .before .before .before .before .before .before .args .straps .addresses) ≡ 16 = search needs in
     straps-decide _ _ _ _ l (search needs) (search needs) (search needs) _ (c .before .before .before .before .few .ensures .0) true true (sym (c .before .before .before .distinct .ensures) ∙ not-false _ (c .before .before .if4 .left)) (sym (c .before .seven-bits .ensures) ∙ not-false _ (c .if5 .left))
 
-pub refusal-spec : {M : Type 1} → statement M
+pub refusal-spec : {M : Type 1} → Rattle.transfers.proofs.refusal.Statement.statement M
 refusal-spec =
     tie.close (tie.spec returns returns-2 returns-3 (λ c κs. search needs) (λ c κs. search needs) returns-4 (λ c κs. search needs) returns-5 returns-6)

@@ -2,7 +2,6 @@
 use Rattle.ground.proofs.Names.{_≤_, _-_, arith, _≡_, refl, sym, _∙_, length, getD, take, drop, needs, lt-ltb, le-ltb}
 use Rattle.bus.specs.Straps.{sevenBits}
 use Rattle.transfers.proofs.Loops.{seven-next, seven-end}
-use Rattle.transfers.proofs.seven_bits.Statement.{statement}
 use Rattle.transfers.proofs.seven_bits.Tie as tie
 
 abbrev Inv-loop : tie.InvT-loop
@@ -29,6 +28,6 @@ returns-2 c =
     let e : c .before .loop .i ≡ c .before .before .before .args .n = omega arith in
     sym (c .before .loop .inv .1 ∙ rw e (seven-end (c .before .before .before .args .n) (c .before .before .before .args .straps .addresses)))
 
-pub seven-bits-spec : {M : Type 1} → statement M
+pub seven-bits-spec : {M : Type 1} → Rattle.transfers.proofs.seven_bits.Statement.statement M
 seven-bits-spec =
     tie.close (tie.spec Inv-loop μ-loop loop-holds (λ c. search needs) returns (λ c. search needs) (λ c. search needs) loop-again returns-2)

@@ -8,7 +8,7 @@
 use Rattle.ground.proofs.Names.{suc, arith, _++_, none}
 use prog.Routine as routine
 use denote.Struct.Laws as LL
-use Rattle.lent.proofs.Logic.{_≡_, refl, sym, subst, ℕ, _-_, _<_, List, [], _∷_, URA, fullShare, named, w8, w64, tyBool, tyPtr, length, getD, SProp, emp, fat, flft, Memory, Routine, Heap, Tables, Atoms, Fun, fact, givenOf, tables, tablesOf, Given, ‵, raw, _⊛_, _$_, _∵_, !, qed, move, drop, use1, split, join, fsplit, fjoin, suffices, frame, done, look, init, forget, stop, hop, lit, bin, and-then, no-more, returns, enter, params1, pass1, fmOf, owns, Is, shows, RefT, at-slice, ShrSlice, slice-vals, row, looks-slice, shuts-slice, nothing, peeks, Bound, tripleOf, Contract, Triple, says, ends-at, Name, Fn, Local, tyRef, imm, place, field, deref, seq, assign, cond, skip, return, copy, int, rvOpd, op2, minus, mul, ne, offset, unsigned, Val, Env, spotOf, Lfts, Shares, toks, use0, put, Item, pointee, now, pureL, sliceTy, typeAt, typesAt, Ended, Clauses, closing, call}
+use Rattle.lent.proofs.Logic.{GName, Room, _≡_, refl, sym, subst, ℕ, _-_, _<_, List, [], _∷_, URA, fullShare, named, w8, w64, tyBool, tyPtr, length, getD, SProp, fat, flft, Memory, Routine, Heap, Tables, Atoms, Fun, givenOf, tables, tablesOf, Given, ‵, raw, _⊛_, _$_, _∵_, !, qed, move, drop, use1, split, join, fsplit, fjoin, suffices, frame, done, look, init, forget, stop, hop, lit, bin, and-then, no-more, returns, enter, params1, pass1, fmOf, owns, Is, shows, at-slice, slice-vals, row, looks-slice, shuts-slice, nothing, peeks, Bound, tripleOf, Triple, says, ends-at, Name, Fn, Local, tyRef, imm, place, field, deref, seq, assign, cond, skip, return, copy, int, rvOpd, op2, minus, mul, ne, offset, unsigned, Val, Env, spotOf, Lfts, Shares, toks, use0, put, Item, pointee, now, pureL, sliceTy, typeAt, typesAt, Ended, Clauses, closing, call}
 use Rattle.device.specs.PowerUp.{powerUp}
 use Rattle.device.specs.declared.Device.{Device}
 use Rattle.device.proofs.Device as T
@@ -26,8 +26,8 @@ use Rattle.lent.proofs.Elements.{copies}
 use Rattle.shapes.proofs.Handed.{starts-first, leaves-first, hands, hands-back, calls-on}
 use Rattle.lent.proofs.Walk.{Walk, lands-known, forks}
 use Rattle.lent.proofs.Params.{Kind, held, inner, outer, type, Of, Seen, Sent, seen, seens, Args, sent, back, sent-back, sents, machine, Good, ends, fits, Had, has, typed-back, comes, locals-of, operands, after, env, spot-after, alloc-all, pass-all, FnOf}
-use Rattle.shapes.proofs.Rows.{Known, Closes, on-shared, stays-shared, proves-shared, refusal-known}
-use Rattle.shapes.proofs.Steps.{not-zero, is-zero, CallRefusal, numbers}
+use Rattle.shapes.proofs.Rows.{Known, ensuring, Closes, on-shared, stays-shared, proves-shared, refusal-known}
+use Rattle.shapes.proofs.Steps.{ref, not-zero, is-zero, CallRefusal, numbers}
 use Rattle.lent.proofs.call_refusal.Symbol as number-def
 
 -- the locals after the parameters: own, number, at; and those of the test and the read
@@ -67,36 +67,14 @@ module _ (own refused work : Name) (k : ℕ) (Ks : List (Kind k)) (R : Kind k) (
   ended = on-shared (held size ∷ Ks) (outer R)
 
   abbrev pub clauses : {M : Type 1} (𝓤 : URA M) → Clauses 𝓤 ended
-  clauses 𝓤 κs a = record {
-    ghost = Unit {0};
-    requires = λ _. emp 𝓤;
-    ensures = λ _ r e. fact 𝓤 (is (seen (κs .1) R (sent κs R r)) (now (a .0)) (outcome (ask (a .1 .0) (question (seens (κs .1) Ks (sents κs Ks (a .1 .1))))) (now (a .0))));
-  }
+  clauses 𝓤 = ensuring 𝓤 ended (λ κs a r e. is (seen (κs .1) R (sent κs R r)) (now (a .0)) (outcome (ask (a .1 .0) (question (seens (κs .1) Ks (sents κs Ks (a .1 .1))))) (now (a .0))))
 
   abbrev ψ-own : Seen Ks → ℕ → Type 0
   ψ-own p r = r ≡ questionRefusal (question p)
 
-  abbrev pub Own : {M : Type 1} (𝓤 : URA M) (H : Heap 𝓤) (A : Atoms 𝓤) → Contract 𝓤
-  Own 𝓤 H A = FnOf Ks (held byte) ψ-own 𝓤 H A
-
-  abbrev pub Refused : {M : Type 1} (𝓤 : URA M) (H : Heap 𝓤) (A : Atoms 𝓤) → Contract 𝓤
-  Refused 𝓤 H A = FnOf (held byte ∷ Ks) R ψ-refused 𝓤 H A
-
-  abbrev pub Work : {M : Type 1} (𝓤 : URA M) (H : Heap 𝓤) (A : Atoms 𝓤) → Contract 𝓤
-  Work 𝓤 H A = FnOf (held device ∷ Ks) R ψ-work 𝓤 H A
-
-  module _ {M : Type 1} (𝓤 : URA M) (H : Heap 𝓤) (A : Atoms 𝓤) (W : Given 𝓤 H A) (mem : Memory → SProp 𝓤) (run : Routine → Fun 𝓤) (κs : Lfts (suc k)) (qs : Shares (suc k)) (x : RefT (List Device)) (j : ℕ) (xs : Args κs Ks) where
+  module _ {M : Type 1} (𝓤 : URA M) (H : Heap 𝓤) (A : Atoms 𝓤) (W : Given 𝓤 H A) (mem : Memory → SProp 𝓤) (run : Routine → Fun 𝓤) (κs : Lfts (suc k)) (qs : Shares (suc k)) (b o : ℕ) (γ : GName) (ys : List Device) (j : ℕ) (xs : Args κs Ks) where
     abbrev y : Bound 𝓤 H A (ended .signature)
-    y = (κs, qs, tt, (x, (j, xs)), (slice-vals x, machine κs (held size ∷ Ks) (j, xs)))
-
-    abbrev ys : List Device
-    ys = x .now
-
-    abbrev b : ℕ
-    b = x .ptr .0
-
-    abbrev o : ℕ
-    o = x .ptr .1
+    y = (κs, qs, tt, (ref γ b o ys, (j, xs)), (slice-vals (ref γ b o ys), machine κs (held size ∷ Ks) (j, xs)))
 
     abbrev xs′ : Sent (κs .1) Ks
     xs′ = sents κs Ks xs
@@ -115,17 +93,17 @@ module _ (own refused work : Name) (k : ℕ) (Ks : List (Kind k)) (R : Kind k) (
     meets : (r : typeAt (inner R) (κs .1) .Denot) (x : Outcome) → outcome (ask j q) ys ≡ x → is (seen (κs .1) R r) ys x → is (seen (κs .1) R r) ys (outcome (ask j q) ys)
     meets r x e i = subst (λ (x : Outcome). is (seen (κs .1) R r) ys x) (sym e) i
 
-    walk : (𝓣 : Tables 𝓤 H) → Triple 𝓤 (𝓣 .C number-def.name) (CallRefusal 𝓤 H A mem run) → Triple 𝓤 (𝓣 .C own) (Own 𝓤 H A) → Triple 𝓤 (𝓣 .C refused) (Refused 𝓤 H A) → Triple 𝓤 (𝓣 .C work) (Work 𝓤 H A) → Is (ShrSlice (named 0) (κs .0) (device .row)) x (slice-vals x) → Good κs (held size ∷ Ks) (j, xs) → Walk 𝓤 H A ended (stays-shared (held size ∷ Ks) (outer R)) (clauses 𝓤) 𝓣 asks y tt
-    walk 𝓣 known-number known-own known-refused known-work is-x good =
+    walk : (𝓣 : Tables 𝓤 H) → Triple 𝓤 (𝓣 .C number-def.name) (CallRefusal 𝓤 H A mem run) → Triple 𝓤 (𝓣 .C own) (FnOf Ks (held byte) ψ-own 𝓤 H A) → Triple 𝓤 (𝓣 .C refused) (FnOf (held byte ∷ Ks) R ψ-refused 𝓤 H A) → Triple 𝓤 (𝓣 .C work) (FnOf (held device ∷ Ks) R ψ-work 𝓤 H A) → Room (device .row) (length ys) → Good κs (held size ∷ Ks) (j, xs) → Walk 𝓤 H A ended (stays-shared (held size ∷ Ks) (outer R)) (clauses 𝓤) 𝓣 asks y tt
+    walk 𝓣 known-number known-own known-refused known-work room good =
         qed W ((‵ (flft (κs .0) (qs .0)) ⊛ raw (toks 𝓤 A k (κs .1) (qs .1))) ∷ ‵ (owns (typesAt (ended .signature .params) κs) (y .3) (y .4)) ∷ []) ∵ enter ! (𝓣 .C) (𝓣 .Λ) asks _ _ $
         starts-first W first ! (λ l D dies. alloc-all ! Ks (λ bs. starts W locals ! (λ m D′ dies′. params1 ! $
         let E : Env 𝓤 H = envOf locals m in
         let spot : (i : ℕ) → spotOf 𝓤 H (env 𝓤 H Ks bs ++ E) (after Ks i) ≡ spotOf 𝓤 H E i = spot-after 𝓤 H Ks bs E in
-        pass1 ! (init ! 10 refl (tt, (tt, (record { fits = is-x .0 .1 .0 }, tt)))) $ pass1 ! (init ! 11 refl (size .typed 𝓤 H A W j (good .0))) $ move ! (8 ∷ []) $ pass-all ! κs Ks bs xs (good .1) E $
+        pass1 ! (init ! 10 refl (tt, (tt, (record { fits = room .0 }, tt)))) $ pass1 ! (init ! 11 refl (size .typed 𝓤 H A W j (good .0))) $ move ! (8 ∷ []) $ pass-all ! κs Ks bs xs (good .1) E $
         move ! (14 ∷ 13 ∷ []) $ fsplit ! $ move ! (1 ∷ []) $ fsplit ! $ drop ! $ move ! (2 ∷ []) $ split ! $ move ! (2 ∷ 1 ∷ 4 ∷ []) $ hands κs qs Ks bs ! xs $
         -- [what is handed on; the token; the slice; the seven locals, from 3; ..; _0 at 11; _1; _2; ..]
         calls-on κs qs Ks bs ! xs′ (fmOf 𝓤 H (W .laws) 𝓣) (λ i. suc (suc (suc i))) E (λ i. refl) [] (held byte) ψ-own known-own tt tt (λ i j o os. os) (λ w r e. lands-known ! byte (questionRefusal q) w r e (λ is-own wt-own. lands-in ! 3 (spot 0) refl wt-own $
-        move ! (2 ∷ 1 ∷ []) $ numbers ! (fmOf 𝓤 H (W .laws) 𝓣) mem run known-number (κs .0) (qs .0) x j (questionRefusal q) (good .0) is-own (λ i s. and-then ! (var ! 12 refl refl) (and-then ! (var ! 13 refl refl) (and-then ! (var ! 3 (spot 0) refl) (no-more !)))) (λ is-nr wt-nr. lands-in ! 4 (spot 1) refl wt-nr $
+        move ! (2 ∷ 1 ∷ []) $ numbers ! (fmOf 𝓤 H (W .laws) 𝓣) mem run known-number (κs .0) (qs .0) (ref γ b o ys) j (questionRefusal q) (good .0) is-own (λ i s. and-then ! (var ! 12 refl refl) (and-then ! (var ! 13 refl refl) (and-then ! (var ! 3 (spot 0) refl) (no-more !)))) (λ is-nr wt-nr. lands-in ! 4 (spot 1) refl wt-nr $
         -- [the slice; its token; what is handed on; the seven locals, from 3; ..]
         sets ! (bin ! (var ! 4 (spot 1) refl) (lit ! tt) tt) 6 (spot 3) refl (tt, tt) $
         forks ! (λ (a : Answer) (Γ : List (Item 𝓤)). put 𝓤 H A 11 (‵ (fat fullShare (type R) (l 0) 0 (a .0))) (put 𝓤 H A 0 (‵ (typeAt (inner R) (κs .1) .own (a .1 .0) (a .0 ∷ []))) Γ)) (var ! 6 (spot 3) refl) (λ Q end no.
@@ -138,11 +116,11 @@ module _ (own refused work : Name) (k : ℕ) (Ks : List (Kind k)) (R : Kind k) (
         let i : ℕ = j - 1 in
         let l′ : i < length ys = omega (arith, there .0, there .1) in
         let d : Device = getD ys i powerUp in
-        sets ! (bin ! (var ! 13 refl refl) (lit ! tt) (there .0)) 5 (spot 2) refl (tt, record { fits = omega (arith, l′, is-x .0 .1 .0) }) $
-        fsplit ! $ pureL ! (at-slice (device .row) x (slice-vals x)) (λ _. fsplit ! $ drop ! $
+        sets ! (bin ! (var ! 13 refl refl) (lit ! tt) (there .0)) 5 (spot 2) refl (tt, record { fits = omega (arith, l′, room .0) }) $
+        fsplit ! $ pureL ! (at-slice (device .row) (ref γ b o ys) (slice-vals (ref γ b o ys))) (λ _. fsplit ! $ drop ! $
         looks-slice ! tt (device .row) (Is (device .row)) (shows 𝓤 H A (device .row)) (λ d. device .val d ∷ []) (device .tells) (LL.copy T.the-type T′.the-copy 𝓤 H A W) ys b o (λ q′. move ! (2 ∷ []) $ drop ! $
         -- [the records; the open borrow; what is handed on; the seven locals, from 3; ..]
-        copies ! device device-sized q′ ys i (length ys) powerUp b o l′ (is-x .0 .1 .1) l′ (var ! 5 (spot 2) refl) (found ! (spot 4) (stop !)) (λ wt. init ! 7 refl wt) (start ! 12 refl refl) (var ! 7 (spot 4) refl) (found ! (spot 5) (stop !)) (init ! 8 refl (tt, tt)) (found ! (spot 5) (hop ! (look ! 10 refl) (stop !))) (found ! (spot 6) (stop !)) (λ wt. init ! 11 refl wt) (λ is-d.
+        copies ! device device-sized q′ ys i (length ys) powerUp b o l′ (room .1) l′ (var ! 5 (spot 2) refl) (found ! (spot 4) (stop !)) (λ wt. init ! 7 refl wt) (start ! 12 refl refl) (var ! 7 (spot 4) refl) (found ! (spot 5) (stop !)) (init ! 8 refl (tt, tt)) (found ! (spot 5) (hop ! (look ! 10 refl) (stop !))) (found ! (spot 6) (stop !)) (λ wt. init ! 11 refl wt) (λ is-d.
         shuts-slice ! tt (device .row) q′ ys b o $ move ! (1 ∷ []) $
         calls-on κs qs Ks bs ! xs′ (fmOf 𝓤 H (W .laws) 𝓣) (λ i. suc (suc (suc i))) E (λ i. refl) (device ∷ []) R ψ-work known-work (d, tt) (is-d, tt) (λ i j o os. and-then ! (var ! 10 (spot 6) refl) os) (λ w′ r′ e′.
         peeks ! (typeAt (inner R) (κs .1)) (Is (typeAt (inner R) (κs .1))) (shows 𝓤 H A (typeAt (inner R) (κs .1))) r′ (w′ ∷ []) (λ is-r. lands-in ! 11 refl refl (typed-back 𝓤 H A W κs R r′ w′ is-r) $
@@ -155,7 +133,7 @@ module _ (own refused work : Name) (k : ℕ) (Ks : List (Kind k)) (R : Kind k) (
         move ! (2 ∷ 0 ∷ []) $ join ! $ frame ! $ nothing ! $ use0 W (‵ (Had κs (held size ∷ Ks) (j, xs))) (has 𝓤 H A W κs (held size ∷ Ks) (j, xs)) $ move ! (1 ∷ 0 ∷ []) $ fjoin ! $ frame ! $
         use1 W (‵ (typeAt (outer R) κs .own (back κs R (a .1 .0)) (a .0 ∷ []))) (comes 𝓤 H A W κs R (a .1 .0) (a .0)) $ done !)))))))
 
-  pub asks-spec : {M : Type 1} (γ : routine.Env) (name : Name) → Closes M γ name asks → γ number-def.name ≡ number-def.routine → Known M (γ own) Own → Known M (γ refused) Refused → Known M (γ work) Work → Known M (γ name) (λ 𝓤 H A. tripleOf 𝓤 H A (ended .signature) (closing 𝓤 H A ended (clauses 𝓤)))
+  pub asks-spec : {M : Type 1} (γ : routine.Env) (name : Name) → Closes M γ name asks → γ number-def.name ≡ number-def.routine → Known M (γ own) (FnOf Ks (held byte) ψ-own) → Known M (γ refused) (FnOf (held byte ∷ Ks) R ψ-refused) → Known M (γ work) (FnOf (held device ∷ Ks) R ψ-work) → Known M (γ name) (λ 𝓤 H A. tripleOf 𝓤 H A (ended .signature) (closing 𝓤 H A ended (clauses 𝓤)))
   unfolding tablesOf
   asks-spec γ name closed number known-own known-refused known-work 𝓤 H 𝓜 𝓖 𝓡 =
-      proves-shared (held size ∷ Ks) (outer R) 𝓤 H 𝓜 𝓖 𝓡 γ name asks (closed 𝓤 H 𝓜 𝓡) (clauses 𝓤) (λ κs qs x a g. walk 𝓤 H (𝓖 .A) (givenOf 𝓤 H 𝓜 𝓖) (𝓜 .mem) (𝓡 .run) κs qs x (a .0) (a .1) (tablesOf 𝓤 H 𝓜 (tables 𝓤 H 𝓜 𝓡 γ)) (refusal-known 𝓤 H 𝓜 𝓖 𝓡 γ number) (known-own 𝓤 H 𝓜 𝓖 𝓡) (known-refused 𝓤 H 𝓜 𝓖 𝓡) (known-work 𝓤 H 𝓜 𝓖 𝓡))
+      proves-shared (held size ∷ Ks) (outer R) 𝓤 H 𝓜 𝓖 𝓡 γ name asks (closed 𝓤 H 𝓜 𝓡) (clauses 𝓤) (λ κs qs b o δ ys a g. walk 𝓤 H (𝓖 .A) (givenOf 𝓤 H 𝓜 𝓖) (𝓜 .mem) (𝓡 .run) κs qs b o δ ys (a .0) (a .1) (tablesOf 𝓤 H 𝓜 (tables 𝓤 H 𝓜 𝓡 γ)) (refusal-known 𝓤 H 𝓜 𝓖 𝓡 γ number) (known-own 𝓤 H 𝓜 𝓖 𝓡) (known-refused 𝓤 H 𝓜 𝓖 𝓡) (known-work 𝓤 H 𝓜 𝓖 𝓡))

@@ -7,7 +7,7 @@
 -- Assumes nothing.
 use Rattle.ground.proofs.Names.{none, suc, arith, _++_, eqb→eq, length-set}
 use prog.Routine as routine
-use Rattle.lent.proofs.Logic.{cited, _≡_, refl, sym, ap, subst, ℕ, _-_, List, [], _∷_, URA, fullShare, named, lit<, w8, w64, length, getD, set, SProp, emp, id⊢, GName, fat, flft, Memory, Routine, Heap, Tables, Atoms, Fun, fact, givenOf, tables, tablesOf, Given, ‵, raw, _⊛_, _$_, _∵_, !, qed, move, drop, split, join, fsplit, fjoin, suffices, frame, done, agg, look, init, forget, lit, of-opd, bin, and-then, no-more, returns, enter, params1, pass1, fmOf, owns, Is, pureI, sliceVal, at-slice, Room, slice-vals, row, opens-slice, closes-slice, plain, owned, Bound, tripleOf, Contract, Triple, says, ends-at, Name, Fn, Local, place, field, deref, seq, assign, cond, skip, return, copy, int, rvOpd, op2, eq, aggregate, addrOf, Env, spotOf, Lfts, Shares, toks, use0, put, Item, now, pureL, typesAt, Ended, Clauses, closing, call}
+use Rattle.lent.proofs.Logic.{cited, _≡_, refl, sym, ap, subst, ℕ, _-_, List, [], _∷_, URA, fullShare, named, lit<, w8, w64, length, getD, set, SProp, emp, id⊢, GName, fat, flft, Memory, Routine, Heap, Tables, Atoms, Fun, givenOf, tables, tablesOf, Given, ‵, raw, _⊛_, _$_, _∵_, !, qed, move, drop, split, join, fsplit, fjoin, suffices, frame, done, agg, look, init, forget, lit, of-opd, bin, and-then, no-more, returns, enter, params1, pass1, fmOf, owns, Is, pureI, sliceVal, at-slice, Room, slice-vals, row, opens-slice, closes-slice, plain, owned, Bound, tripleOf, Contract, Triple, says, ends-at, Name, Fn, Local, place, field, deref, seq, assign, cond, skip, return, copy, int, rvOpd, op2, eq, aggregate, addrOf, Env, spotOf, Lfts, Shares, toks, use0, put, Item, now, pureL, typesAt, Ended, Clauses, closing, call}
 use Rattle.device.specs.PowerUp.{powerUp}
 use Rattle.device.specs.declared.Device.{Device}
 use Rattle.bus.specs.declared.Bus.{Bus}
@@ -28,7 +28,7 @@ use Rattle.lent.proofs.Walk.{Walk, lands-known, calls-value, forks}
 use Rattle.lent.proofs.Params.{Sent, Kind, held, Seen, seens, Args, sents, machine, Good, ends, fits, Had, has, locals-of, operands, after, env, spot-after, alloc-all, pass-all, FnOf}
 use Rattle.lent.proofs.call_refusal.Symbol as number-def
 use Rattle.shapes.proofs.BusTypes.{busState, strapsGiven, byteAnswer}
-use Rattle.shapes.proofs.Rows.{Known, Closes, on-mut, stays-mut, proves-mut, refusal-known}
+use Rattle.shapes.proofs.Rows.{Known, ensuring, Closes, on-mut, stays-mut, proves-mut, refusal-known}
 use Rattle.shapes.proofs.Steps.{not-zero, ref, CallRefusal, numbers-mut}
 
 -- the locals after the parameters: n, early and part, and those of `Replaces.antt`
@@ -71,11 +71,7 @@ module _ (free work answer : Name) (k : ℕ) (Ks : List (Kind k)) (q : Seen Ks �
   ended = on-mut others (plain (λ _. byteAnswer .row))
 
   abbrev pub clauses : {M : Type 1} (𝓤 : URA M) → Clauses 𝓤 ended
-  clauses 𝓤 κs a = record {
-    ghost = Unit {0};
-    requires = λ _. emp 𝓤;
-    ensures = λ _ r e. fact 𝓤 (busOutcome (a .1 .1 .0 .addresses) (q (seens (κs .1) Ks (sents κs Ks (a .1 .1 .1)))) (a .1 .0) (now (a .0)) ≡ record { number = r .number; bus = r .bus; records = now (e .0); back = r .acknowledged ∷ r .«data» ∷ [] });
-  }
+  clauses 𝓤 = ensuring 𝓤 ended (λ κs a r e. busOutcome (a .1 .1 .0 .addresses) (q (seens (κs .1) Ks (sents κs Ks (a .1 .1 .1)))) (a .1 .0) (now (a .0)) ≡ record { number = r .number; bus = r .bus; records = now (e .0); back = r .acknowledged ∷ r .«data» ∷ [] })
 
   abbrev ψ-free : Seen (held byte ∷ held size ∷ held busState ∷ held strapsGiven ∷ Ks) → ByteAnswer → Type 0
   ψ-free p r = r ≡ freed (p .0) (p .1 .0) (p .1 .1 .0) (p .1 .1 .1 .0 .addresses) (p .1 .1 .1 .1)
@@ -85,15 +81,6 @@ module _ (free work answer : Name) (k : ℕ) (Ks : List (Kind k)) (q : Seen Ks �
 
   abbrev ψ-answer : Seen (held device ∷ held busState ∷ Ks) → ByteAnswer → Type 0
   ψ-answer p r = r ≡ answered (p .0) (p .1 .0) (p .1 .1)
-
-  abbrev pub Free : {M : Type 1} (𝓤 : URA M) (H : Heap 𝓤) (A : Atoms 𝓤) → Contract 𝓤
-  Free 𝓤 H A = FnOf (held byte ∷ held size ∷ held busState ∷ held strapsGiven ∷ Ks) (held byteAnswer) ψ-free 𝓤 H A
-
-  abbrev pub Work : {M : Type 1} (𝓤 : URA M) (H : Heap 𝓤) (A : Atoms 𝓤) → Contract 𝓤
-  Work 𝓤 H A = FnOf (held device ∷ held busState ∷ Ks) (held device) ψ-work 𝓤 H A
-
-  abbrev pub Answer : {M : Type 1} (𝓤 : URA M) (H : Heap 𝓤) (A : Atoms 𝓤) → Contract 𝓤
-  Answer 𝓤 H A = FnOf (held device ∷ held busState ∷ Ks) (held byteAnswer) ψ-answer 𝓤 H A
 
   module _ {M : Type 1} (𝓤 : URA M) (H : Heap 𝓤) (A : Atoms 𝓤) (mem : Memory → SProp 𝓤) (run : Routine → Fun 𝓤) where
     abbrev pub Open : Contract 𝓤
@@ -119,7 +106,7 @@ module _ (free work answer : Name) (k : ℕ) (Ks : List (Kind k)) (q : Seen Ks �
     abbrev Left : Type 0
     Left = (r : ByteAnswer) × ((zs : List Device) × (Is (byteAnswer .row) r (byteAnswer .val r ∷ []) × ((busOutcome (σ .addresses) (q p) β ys ≡ answeredTo r zs) × (length zs ≡ length ys))))
 
-    walk : (𝓣 : Tables 𝓤 H) → Triple 𝓤 (𝓣 .C number-def.name) (CallRefusal 𝓤 H A mem run) → Triple 𝓤 (𝓣 .C open′.Symbol.name) (Open 𝓤 H A mem run) → Triple 𝓤 (𝓣 .C free) (Free 𝓤 H A) → Triple 𝓤 (𝓣 .C work) (Work 𝓤 H A) → Triple 𝓤 (𝓣 .C answer) (Answer 𝓤 H A) → Room (device .row) (length ys) → Good κs others (β, (σ, xs)) → Walk 𝓤 H A ended (stays-mut others (plain (λ _. byteAnswer .row))) (clauses 𝓤) 𝓣 bytes y tt
+    walk : (𝓣 : Tables 𝓤 H) → Triple 𝓤 (𝓣 .C number-def.name) (CallRefusal 𝓤 H A mem run) → Triple 𝓤 (𝓣 .C open′.Symbol.name) (Open 𝓤 H A mem run) → Triple 𝓤 (𝓣 .C free) (FnOf (held byte ∷ held size ∷ held busState ∷ held strapsGiven ∷ Ks) (held byteAnswer) ψ-free 𝓤 H A) → Triple 𝓤 (𝓣 .C work) (FnOf (held device ∷ held busState ∷ Ks) (held device) ψ-work 𝓤 H A) → Triple 𝓤 (𝓣 .C answer) (FnOf (held device ∷ held busState ∷ Ks) (held byteAnswer) ψ-answer 𝓤 H A) → Room (device .row) (length ys) → Good κs others (β, (σ, xs)) → Walk 𝓤 H A ended (stays-mut others (plain (λ _. byteAnswer .row))) (clauses 𝓤) 𝓣 bytes y tt
     walk 𝓣 known-number known-open known-free known-work known-answer room is =
         qed W ((‵ (flft (κs .0) (qs .0)) ⊛ raw (toks 𝓤 A k (κs .1) (qs .1))) ∷ ‵ (owns (typesAt (ended .signature .params) κs) (y .3) (y .4)) ∷ []) ∵ enter ! (𝓣 .C) (𝓣 .Λ) bytes _ _ $
         starts-first W first ! (λ l D dies. alloc-all ! Ks (λ bs. starts W locals ! (λ m D′ dies′. params1 ! $
@@ -157,7 +144,7 @@ module _ (free work answer : Name) (k : ℕ) (Ks : List (Kind k)) (q : Seen Ks �
         use0 W (‵ (Had κs others (β, (σ, xs)))) (has 𝓤 H A W κs others (β, (σ, xs))) $ move ! (1 ∷ 0 ∷ []) $ fjoin ! $ frame ! $
         owned ! (byteAnswer .row) (Is (byteAnswer .row)) (byteAnswer .makes 𝓤 H A W) (a .0) _ (a .1 .1 .0) $ done !)))))))
 
-  pub bytes-spec : {M : Type 1} (γ : routine.Env) (name : Name) → Closes M γ name bytes → γ number-def.name ≡ number-def.routine → γ open′.Symbol.name ≡ open′.Symbol.routine → Known M (γ free) Free → Known M (γ work) Work → Known M (γ answer) Answer → Known M (γ name) (λ 𝓤 H A. tripleOf 𝓤 H A (ended .signature) (closing 𝓤 H A ended (clauses 𝓤)))
+  pub bytes-spec : {M : Type 1} (γ : routine.Env) (name : Name) → Closes M γ name bytes → γ number-def.name ≡ number-def.routine → γ open′.Symbol.name ≡ open′.Symbol.routine → Known M (γ free) (FnOf (held byte ∷ held size ∷ held busState ∷ held strapsGiven ∷ Ks) (held byteAnswer) ψ-free) → Known M (γ work) (FnOf (held device ∷ held busState ∷ Ks) (held device) ψ-work) → Known M (γ answer) (FnOf (held device ∷ held busState ∷ Ks) (held byteAnswer) ψ-answer) → Known M (γ name) (λ 𝓤 H A. tripleOf 𝓤 H A (ended .signature) (closing 𝓤 H A ended (clauses 𝓤)))
   unfolding tablesOf
   bytes-spec γ name closed number opened known-free known-work known-answer 𝓤 H 𝓜 𝓖 𝓡 =
       proves-mut others (plain (λ _. byteAnswer .row)) 𝓤 H 𝓜 𝓖 𝓡 γ name bytes (closed 𝓤 H 𝓜 𝓡) (clauses 𝓤) (λ κs qs b o δ ys a g. walk 𝓤 H (𝓖 .A) (givenOf 𝓤 H 𝓜 𝓖) (𝓜 .mem) (𝓡 .run) κs qs b o δ ys (a .0) (a .1 .0) (a .1 .1) (tablesOf 𝓤 H 𝓜 (tables 𝓤 H 𝓜 𝓡 γ)) (refusal-known 𝓤 H 𝓜 𝓖 𝓡 γ number) (cited 𝓤 H _ 𝓜 𝓡 γ open′.Symbol.name open′.Symbol.routine opened (open′.Met.met 𝓤 H 𝓜 𝓖 𝓡)) (known-free 𝓤 H 𝓜 𝓖 𝓡) (known-work 𝓤 H 𝓜 𝓖 𝓡) (known-answer 𝓤 H 𝓜 𝓖 𝓡))

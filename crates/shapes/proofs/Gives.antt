@@ -7,7 +7,7 @@
 -- Assumes nothing.
 use Rattle.ground.proofs.Names.{none, suc, arith, _++_, eqb→eq, length-set}
 use prog.Routine as routine
-use Rattle.lent.proofs.Logic.{_≡_, refl, sym, ap, subst, ℕ, _-_, List, [], _∷_, URA, fullShare, w8, vint, length, getD, set, SProp, emp, GName, flft, Memory, Routine, Heap, Tables, Atoms, Fun, fact, givenOf, tables, tablesOf, Given, ‵, raw, _⊛_, _$_, _∵_, !, qed, move, drop, split, join, fsplit, fjoin, suffices, frame, done, agg, look, init, forget, lit, of-opd, bin, and-then, no-more, returns, enter, params1, pass1, fmOf, owns, Is, pureI, sliceVal, at-slice, Room, slice-vals, row, opens-slice, closes-slice, plain, owned, Bound, tripleOf, Contract, Triple, says, ends-at, Name, Fn, Local, place, field, deref, seq, assign, cond, skip, return, copy, int, rvOpd, op2, eq, aggregate, addrOf, Env, spotOf, Lfts, Shares, toks, use0, now, pureL, typesAt, Ended, Clauses, closing, call}
+use Rattle.lent.proofs.Logic.{_≡_, refl, sym, ap, subst, ℕ, _-_, List, [], _∷_, URA, fullShare, w8, vint, length, getD, set, SProp, GName, flft, Memory, Routine, Heap, Tables, Atoms, Fun, givenOf, tables, tablesOf, Given, ‵, raw, _⊛_, _$_, _∵_, !, qed, move, drop, split, join, fsplit, fjoin, suffices, frame, done, agg, look, init, forget, lit, of-opd, bin, and-then, no-more, returns, enter, params1, pass1, fmOf, owns, Is, pureI, sliceVal, at-slice, Room, slice-vals, row, opens-slice, closes-slice, plain, owned, Bound, tripleOf, Triple, says, ends-at, Name, Fn, Local, place, field, deref, seq, assign, cond, skip, return, copy, int, rvOpd, op2, eq, aggregate, addrOf, Env, spotOf, Lfts, Shares, toks, use0, now, pureL, typesAt, Ended, Clauses, closing, call}
 use Rattle.device.specs.PowerUp.{powerUp}
 use Rattle.device.specs.declared.Device.{Device}
 use Rattle.calls.specs.Calls.{Step, give}
@@ -23,7 +23,7 @@ use Rattle.shapes.proofs.Handed.{starts-first, leaves-first, hands, han
 use Rattle.shapes.proofs.Replaces.{no-more as at-end, store-locals, sliceOf, replacing, replaces}
 use Rattle.lent.proofs.Walk.{Walk, lands-known, joins}
 use Rattle.lent.proofs.Params.{Sent, Kind, held, Seen, seens, Args, sents, machine, Good, ends, fits, Had, has, locals-of, operands, after, env, spot-after, alloc-all, pass-all, FnOf}
-use Rattle.shapes.proofs.Rows.{Known, Closes, on-mut, stays-mut, proves-mut, refusal-known}
+use Rattle.shapes.proofs.Rows.{Known, ensuring, Closes, on-mut, stays-mut, proves-mut, refusal-known}
 use Rattle.shapes.proofs.Steps.{not-zero, ref, CallRefusal, numbers-mut}
 use Rattle.lent.proofs.call_refusal.Symbol as number-def
 
@@ -60,23 +60,13 @@ module _ (own work : Name) (k : ℕ) (Ks : List (Kind k)) (step : Seen Ks → St
   ended = on-mut (held size ∷ Ks) (plain (λ _. byte .row))
 
   abbrev pub clauses : {M : Type 1} (𝓤 : URA M) → Clauses 𝓤 ended
-  clauses 𝓤 κs a = record {
-    ghost = Unit {0};
-    requires = λ _. emp 𝓤;
-    ensures = λ _ r e. fact 𝓤 (outcome (give (a .1 .0) (step (seens (κs .1) Ks (sents κs Ks (a .1 .1))))) (now (a .0)) ≡ record { number = r; records = now (e .0); back = [] });
-  }
+  clauses 𝓤 = ensuring 𝓤 ended (λ κs a r e. outcome (give (a .1 .0) (step (seens (κs .1) Ks (sents κs Ks (a .1 .1))))) (now (a .0)) ≡ record { number = r; records = now (e .0); back = [] })
 
   abbrev ψ-own : Seen Ks → ℕ → Type 0
   ψ-own p r = r ≡ stepRefusal (step p)
 
   abbrev ψ-work : Seen (held device ∷ Ks) → Device → Type 0
   ψ-work p r = r ≡ stepped (step (p .1)) (p .0)
-
-  abbrev pub Own : {M : Type 1} (𝓤 : URA M) (H : Heap 𝓤) (A : Atoms 𝓤) → Contract 𝓤
-  Own 𝓤 H A = FnOf Ks (held byte) ψ-own 𝓤 H A
-
-  abbrev pub Work : {M : Type 1} (𝓤 : URA M) (H : Heap 𝓤) (A : Atoms 𝓤) → Contract 𝓤
-  Work 𝓤 H A = FnOf (held device ∷ Ks) (held device) ψ-work 𝓤 H A
 
   module _ {M : Type 1} (𝓤 : URA M) (H : Heap 𝓤) (A : Atoms 𝓤) (W : Given 𝓤 H A) (mem : Memory → SProp 𝓤) (run : Routine → Fun 𝓤) (κs : Lfts (suc k)) (qs : Shares (suc k)) (b o : ℕ) (γ : GName) (ys : List Device) (j : ℕ) (xs : Args κs Ks) where
     abbrev y : Bound 𝓤 H A (ended .signature)
@@ -95,7 +85,7 @@ module _ (own work : Name) (k : ℕ) (Ks : List (Kind k)) (step : Seen Ks → St
     abbrev Left : Type 0
     Left = (zs : List Device) × ((outcome (give j st) ys ≡ record { number = nr; records = zs; back = [] }) × (length zs ≡ length ys))
 
-    walk : (𝓣 : Tables 𝓤 H) → Triple 𝓤 (𝓣 .C number-def.name) (CallRefusal 𝓤 H A mem run) → Triple 𝓤 (𝓣 .C own) (Own 𝓤 H A) → Triple 𝓤 (𝓣 .C work) (Work 𝓤 H A) → Room (device .row) (length ys) → Good κs (held size ∷ Ks) (j, xs) → Walk 𝓤 H A ended (stays-mut (held size ∷ Ks) (plain (λ _. byte .row))) (clauses 𝓤) 𝓣 gives y tt
+    walk : (𝓣 : Tables 𝓤 H) → Triple 𝓤 (𝓣 .C number-def.name) (CallRefusal 𝓤 H A mem run) → Triple 𝓤 (𝓣 .C own) (FnOf Ks (held byte) ψ-own 𝓤 H A) → Triple 𝓤 (𝓣 .C work) (FnOf (held device ∷ Ks) (held device) ψ-work 𝓤 H A) → Room (device .row) (length ys) → Good κs (held size ∷ Ks) (j, xs) → Walk 𝓤 H A ended (stays-mut (held size ∷ Ks) (plain (λ _. byte .row))) (clauses 𝓤) 𝓣 gives y tt
     walk 𝓣 known-number known-own known-work room is =
         qed W ((‵ (flft (κs .0) (qs .0)) ⊛ raw (toks 𝓤 A k (κs .1) (qs .1))) ∷ ‵ (owns (typesAt (ended .signature .params) κs) (y .3) (y .4)) ∷ []) ∵ enter ! (𝓣 .C) (𝓣 .Λ) gives _ _ $
         starts-first W first ! (λ l D dies. alloc-all ! Ks (λ bs. starts W locals ! (λ m D′ dies′. params1 ! $
@@ -126,7 +116,7 @@ module _ (own work : Name) (k : ℕ) (Ks : List (Kind k)) (step : Seen Ks → St
         use0 W (‵ (Had κs (held size ∷ Ks) (j, xs))) (has 𝓤 H A W κs (held size ∷ Ks) (j, xs)) $ move ! (1 ∷ 0 ∷ []) $ fjoin ! $ frame ! $
         owned ! (byte .row) (Is (byte .row)) (byte .makes 𝓤 H A W) nr _ is-nr $ done !))))))))
 
-  pub gives-spec : {M : Type 1} (γ : routine.Env) (name : Name) → Closes M γ name gives → γ number-def.name ≡ number-def.routine → Known M (γ own) Own → Known M (γ work) Work → Known M (γ name) (λ 𝓤 H A. tripleOf 𝓤 H A (ended .signature) (closing 𝓤 H A ended (clauses 𝓤)))
+  pub gives-spec : {M : Type 1} (γ : routine.Env) (name : Name) → Closes M γ name gives → γ number-def.name ≡ number-def.routine → Known M (γ own) (FnOf Ks (held byte) ψ-own) → Known M (γ work) (FnOf (held device ∷ Ks) (held device) ψ-work) → Known M (γ name) (λ 𝓤 H A. tripleOf 𝓤 H A (ended .signature) (closing 𝓤 H A ended (clauses 𝓤)))
   unfolding tablesOf
   gives-spec γ name closed number known-own known-work 𝓤 H 𝓜 𝓖 𝓡 =
       proves-mut (held size ∷ Ks) (plain (λ _. byte .row)) 𝓤 H 𝓜 𝓖 𝓡 γ name gives (closed 𝓤 H 𝓜 𝓡) (clauses 𝓤) (λ κs qs b o δ ys a g. walk 𝓤 H (𝓖 .A) (givenOf 𝓤 H 𝓜 𝓖) (𝓜 .mem) (𝓡 .run) κs qs b o δ ys (a .0) (a .1) (tablesOf 𝓤 H 𝓜 (tables 𝓤 H 𝓜 𝓡 γ)) (refusal-known 𝓤 H 𝓜 𝓖 𝓡 γ number) (known-own 𝓤 H 𝓜 𝓖 𝓡) (known-work 𝓤 H 𝓜 𝓖 𝓡))

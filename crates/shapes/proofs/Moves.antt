@@ -6,7 +6,7 @@
 -- Assumes nothing.
 use mathlib.Core.Option.{some}
 use prog.Routine as routine
-use Rattle.lent.proofs.Logic.{join, split, _≡_, refl, ℕ, List, [], _∷_, lit<, length, URA, named, w8, w64, SProp, emp, id⊢, Lft, Share, ftrue, flft, Memory, Routine, Heap, Tables, Atoms, Fun, fact, givenOf, tables, tablesOf, Given, ‵, _⊛_, _$_, _∵_, !, qed, move, drop, fsplit, fjoin, suffices, frame, done, look, init, lit, of-opd, and-then, no-more, returns, enter, params1, pass1, pass0, fmOf, owns, Is, RefT, ShrSlice, slice-vals, plain, nothing, owned, Bound, tripleOf, Contract, Triple, says, ends-at, Name, Fn, Local, tyRef, imm, place, field, seq, assign, return, copy, int, rvOpd, use0, pointee, now, sliceTy, typesAt, Ended, Clauses, closing, call}
+use Rattle.lent.proofs.Logic.{GName, Room, join, split, _≡_, refl, ℕ, List, [], _∷_, lit<, length, URA, named, w8, w64, SProp, emp, id⊢, Lft, Share, ftrue, flft, Memory, Routine, Heap, Tables, Atoms, Fun, givenOf, tables, tablesOf, Given, ‵, _⊛_, _$_, _∵_, !, qed, move, drop, fsplit, fjoin, suffices, frame, done, look, init, lit, of-opd, and-then, no-more, returns, enter, params1, pass1, pass0, fmOf, owns, Is, slice-vals, plain, nothing, owned, Bound, tripleOf, Contract, Triple, says, ends-at, Name, Fn, Local, tyRef, imm, place, field, seq, assign, return, copy, int, rvOpd, use0, pointee, now, sliceTy, typesAt, Ended, Clauses, closing, call}
 use Rattle.device.specs.declared.Device.{Device}
 use Rattle.bus.specs.declared.Bus.{Bus}
 use Rattle.bus.specs.BusCalls.{BusCall}
@@ -22,8 +22,8 @@ use Rattle.lent.proofs.Locals.{span, values, starts, leaves, var, sets, lands-i
 use Rattle.lent.proofs.Params.{Kind, held, machine, Good, ends, fits, Had, has}
 use Rattle.lent.proofs.call_refusal.Symbol as number-def
 use Rattle.shapes.proofs.BusTypes.{busState, strapsGiven, busAnswer}
-use Rattle.shapes.proofs.Rows.{Known, Closes, on-shared, stays-shared, proves-shared, refusal-known}
-use Rattle.shapes.proofs.Steps.{CallRefusal, numbers}
+use Rattle.shapes.proofs.Rows.{Known, ensuring, Closes, on-shared, stays-shared, proves-shared, refusal-known}
+use Rattle.shapes.proofs.Steps.{ref, CallRefusal, numbers}
 
 -- the parameters after the parts
 abbrev others : List (Kind 0)
@@ -48,21 +48,14 @@ module _ (answer : Name) (left : Bus) (q : BusCall) (law : (ds : List Device) (�
   ended = on-shared others (plain (λ _. busAnswer .row))
 
   abbrev pub clauses : {M : Type 1} (𝓤 : URA M) → Clauses 𝓤 ended
-  clauses 𝓤 κs a = record {
-    ghost = Unit {0};
-    requires = λ _. emp 𝓤;
-    ensures = λ _ r e. fact 𝓤 (busOutcome (a .1 .1 .0 .addresses) q (a .1 .0) (now (a .0)) ≡ record { number = r .number; bus = r .bus; records = now (a .0); back = [] });
-  }
+  clauses 𝓤 = ensuring 𝓤 ended (λ κs a r e. busOutcome (a .1 .1 .0 .addresses) q (a .1 .0) (now (a .0)) ≡ record { number = r .number; bus = r .bus; records = now (a .0); back = [] })
 
   abbrev pub Answer : {M : Type 1} (𝓤 : URA M) (H : Heap 𝓤) (A : Atoms 𝓤) → Contract 𝓤
   Answer 𝓤 H A = tripleOf 𝓤 H A (value-fn (byte ∷ size ∷ busState ∷ strapsGiven ∷ []) busAnswer .signature) (closing 𝓤 H A (value-fn (byte ∷ size ∷ busState ∷ strapsGiven ∷ []) busAnswer) (value-says 𝓤 (byte ∷ size ∷ busState ∷ strapsGiven ∷ []) busAnswer (λ _. emp 𝓤) (λ a. moved (refusalFrom (a .0) (a .1 .0) (a .1 .1 .0) (a .1 .1 .1 .0 .addresses)) (a .1 .1 .0) left)))
 
-  module _ {M : Type 1} (𝓤 : URA M) (H : Heap 𝓤) (A : Atoms 𝓤) (W : Given 𝓤 H A) (mem : Memory → SProp 𝓤) (run : Routine → Fun 𝓤) (κ : Lft) (share : Share) (x : RefT (List Device)) (β : Bus) (σ : Straps) where
+  module _ {M : Type 1} (𝓤 : URA M) (H : Heap 𝓤) (A : Atoms 𝓤) (W : Given 𝓤 H A) (mem : Memory → SProp 𝓤) (run : Routine → Fun 𝓤) (κ : Lft) (share : Share) (b o : ℕ) (γ : GName) (ys : List Device) (β : Bus) (σ : Straps) where
     abbrev y : Bound 𝓤 H A (ended .signature)
-    y = ((κ, tt), (share, tt), tt, (x, (β, (σ, tt))), (slice-vals x, machine (κ, tt) others (β, (σ, tt))))
-
-    abbrev ys : List Device
-    ys = x .now
+    y = ((κ, tt), (share, tt), tt, (ref γ b o ys, (β, (σ, tt))), (slice-vals (ref γ b o ys), machine (κ, tt) others (β, (σ, tt))))
 
     abbrev early : ℕ
     early = callRefusal ys 1 0
@@ -70,15 +63,15 @@ module _ (answer : Name) (left : Bus) (q : BusCall) (law : (ds : List Device) (�
     abbrev r : BusAnswer
     r = moved (refusalFrom early (length ys) β (σ .addresses)) β left
 
-    walk : (𝓣 : Tables 𝓤 H) → Triple 𝓤 (𝓣 .C number-def.name) (CallRefusal 𝓤 H A mem run) → Triple 𝓤 (𝓣 .C answer) (Answer 𝓤 H A) → Is (ShrSlice (named 0) κ (device .row)) x (slice-vals x) → Good (κ, tt) others (β, (σ, tt)) → Walk 𝓤 H A ended (stays-shared others (plain (λ _. busAnswer .row))) (clauses 𝓤) 𝓣 moves y tt
-    walk 𝓣 known-number known-answer is-x good =
+    walk : (𝓣 : Tables 𝓤 H) → Triple 𝓤 (𝓣 .C number-def.name) (CallRefusal 𝓤 H A mem run) → Triple 𝓤 (𝓣 .C answer) (Answer 𝓤 H A) → Room (device .row) (length ys) → Good (κ, tt) others (β, (σ, tt)) → Walk 𝓤 H A ended (stays-shared others (plain (λ _. busAnswer .row))) (clauses 𝓤) 𝓣 moves y tt
+    walk 𝓣 known-number known-answer room good =
         qed W ((‵ (flft κ share) ⊛ ‵ ftrue) ∷ ‵ (owns (typesAt (ended .signature .params) (κ, tt)) (y .3) (y .4)) ∷ []) ∵ enter ! (𝓣 .C) (𝓣 .Λ) moves _ _ $
-        starts W locals ! (λ l D dies. params1 ! $ pass1 ! (init ! 1 refl (tt, (tt, (record { fits = is-x .0 .1 .0 }, tt)))) $ pass1 ! (init ! 2 refl (busState .typed 𝓤 H A W β (good .0))) $ pass1 ! (init ! 3 refl (strapsGiven .typed 𝓤 H A W σ (good .1 .0))) $ pass0 ! $
+        starts W locals ! (λ l D dies. params1 ! $ pass1 ! (init ! 1 refl (tt, (tt, (record { fits = room .0 }, tt)))) $ pass1 ! (init ! 2 refl (busState .typed 𝓤 H A W β (good .0))) $ pass1 ! (init ! 3 refl (strapsGiven .typed 𝓤 H A W σ (good .1 .0))) $ pass0 ! $
         -- [_0; _1; ..; _5; that they die; the token; what the parameters own]
-        sets ! (of-opd ! (count ! 1 refl refl)) 4 refl refl (tt, record { fits = is-x .0 .1 .0 }) $ move ! (7 ∷ 8 ∷ []) $ split ! $ move ! (2 ∷ []) $ fsplit ! $ move ! (1 ∷ []) $ drop ! $
+        sets ! (of-opd ! (count ! 1 refl refl)) 4 refl refl (tt, record { fits = room .0 }) $ move ! (7 ∷ 8 ∷ []) $ split ! $ move ! (2 ∷ []) $ fsplit ! $ move ! (1 ∷ []) $ drop ! $
         -- [the slice; its token; true; _0, from 3; ..]
-        numbers ! (fmOf 𝓤 H (W .laws) 𝓣) mem run known-number κ share x 1 0 (refl, lit< tt) (refl, lit< tt) (λ i s. and-then ! (var ! 4 refl refl) (and-then ! (lit ! tt) (and-then ! (lit ! tt) (no-more !)))) (λ is-early wt-early. lands-in ! 8 refl refl wt-early $
-        calls-value ! (fmOf 𝓤 H (W .laws) 𝓣) (byte ∷ size ∷ busState ∷ strapsGiven ∷ []) busAnswer (λ _. emp 𝓤) (λ a. moved (refusalFrom (a .0) (a .1 .0) (a .1 .1 .0) (a .1 .1 .1 .0 .addresses)) (a .1 .1 .0) left) known-answer (early, (length ys, (β, (σ, tt)))) (is-early, ((refl, is-x .0 .1 .0), (good .0, (good .1 .0, tt)))) (id⊢ 𝓤 _)
+        numbers ! (fmOf 𝓤 H (W .laws) 𝓣) mem run known-number κ share (ref γ b o ys) 1 0 (refl, lit< tt) (refl, lit< tt) (λ i s. and-then ! (var ! 4 refl refl) (and-then ! (lit ! tt) (and-then ! (lit ! tt) (no-more !)))) (λ is-early wt-early. lands-in ! 8 refl refl wt-early $
+        calls-value ! (fmOf 𝓤 H (W .laws) 𝓣) (byte ∷ size ∷ busState ∷ strapsGiven ∷ []) busAnswer (λ _. emp 𝓤) (λ a. moved (refusalFrom (a .0) (a .1 .0) (a .1 .1 .0) (a .1 .1 .1 .0 .addresses)) (a .1 .1 .0) left) known-answer (early, (length ys, (β, (σ, tt)))) (is-early, ((refl, room .0), (good .0, (good .1 .0, tt)))) (id⊢ 𝓤 _)
         (and-then ! (var ! 9 refl refl) (and-then ! (var ! 8 refl refl) (and-then ! (var ! 6 refl refl) (and-then ! (var ! 7 refl refl) (no-more !))))) (λ is-r wt-r. lands-in ! 3 refl refl wt-r $
         drop ! $ join ! $ returns ! (look ! 1 refl) $ move ! (span 1 7) $ leaves W dies (some _ ∷ some _ ∷ some _ ∷ some _ ∷ some _ ∷ some _ ∷ []) ! $
         suffices ! _ (ends-at 𝓤 H A ended (stays-shared others (plain (λ _. busAnswer .row))) (clauses 𝓤) W (y, tt) (busAnswer .val r) r (tt, ends (κ, tt) others (β, (σ, tt))) (tt, fits (κ, tt) others (β, (σ, tt)))) $ says ! (law ys β (σ .addresses)) $
@@ -87,4 +80,4 @@ module _ (answer : Name) (left : Bus) (q : BusCall) (law : (ds : List Device) (�
   pub moves-spec : {M : Type 1} (γ : routine.Env) (name : Name) → Closes M γ name moves → γ number-def.name ≡ number-def.routine → Known M (γ answer) Answer → Known M (γ name) (λ 𝓤 H A. tripleOf 𝓤 H A (ended .signature) (closing 𝓤 H A ended (clauses 𝓤)))
   unfolding tablesOf
   moves-spec γ name closed number known-answer 𝓤 H 𝓜 𝓖 𝓡 =
-      proves-shared others (plain (λ _. busAnswer .row)) 𝓤 H 𝓜 𝓖 𝓡 γ name moves (closed 𝓤 H 𝓜 𝓡) (clauses 𝓤) (λ κs qs x a g. walk 𝓤 H (𝓖 .A) (givenOf 𝓤 H 𝓜 𝓖) (𝓜 .mem) (𝓡 .run) (κs .0) (qs .0) x (a .0) (a .1 .0) (tablesOf 𝓤 H 𝓜 (tables 𝓤 H 𝓜 𝓡 γ)) (refusal-known 𝓤 H 𝓜 𝓖 𝓡 γ number) (known-answer 𝓤 H 𝓜 𝓖 𝓡))
+      proves-shared others (plain (λ _. busAnswer .row)) 𝓤 H 𝓜 𝓖 𝓡 γ name moves (closed 𝓤 H 𝓜 𝓡) (clauses 𝓤) (λ κs qs b o δ ys a g. walk 𝓤 H (𝓖 .A) (givenOf 𝓤 H 𝓜 𝓖) (𝓜 .mem) (𝓡 .run) (κs .0) (qs .0) b o δ ys (a .0) (a .1 .0) (tablesOf 𝓤 H 𝓜 (tables 𝓤 H 𝓜 𝓡 γ)) (refusal-known 𝓤 H 𝓜 𝓖 𝓡 γ number) (known-answer 𝓤 H 𝓜 𝓖 𝓡))

@@ -1,6 +1,6 @@
 -- The proof of `specs/BusIsolation.antt`'s theorem: the invariant, one step, and induction on the list.
 -- Assumes nothing.
-use Rattle.ground.proofs.Names.{ℕ, _-_, _≤_, Bool, true, false, true≢false, List, [], _∷_, map, _≡_, refl, sym, ap, _∙_, length, eqb-true, if, and-left, and-right}
+use Rattle.ground.proofs.Names.{ℕ, _-_, _≤_, Bool, true, false, true≢false, List, [], _∷_, map, _≡_, refl, sym, _∙_, length, eqb-true, if, and-left, and-right}
 use Rattle.device.specs.declared.Device.{Device}
 use Rattle.calls.specs.CallRefusals.{allSound}
 use Rattle.calls.specs.Served.{recordOf}

@@ -1,6 +1,6 @@
 -- What is written fits its register's width.
 -- Assumes nothing.
-use Rattle.ground.proofs.Names.{ℕ, _/_, true, _&&_, _≡_, ltb, and-left, and-right, mod-small}
+use Rattle.ground.proofs.Names.{ℕ, _/_, true, _≡_, ltb, and-left, and-right, mod-small}
 use Rattle.words.specs.declared.ControlRegister.{ControlRegister}
 use Rattle.words.specs.declared.ControlRegister.the-variants.{DecodeMode, GlobalIntensity, ScanLimit, GpioData, PortConfiguration, DisplayTest, DigitType}
 use Rattle.controls.specs.Controls.{controlWritten, soundControls}
@@ -15,18 +15,7 @@ record Parts (x : Controls) : Type 0 where
   test : ltb (x .test) 2 ≡ true
 
 parts : (x : Controls) → soundControls x ≡ true → Parts x
-parts x e =
-    let g = ltb (x .global) 16 in
-    let l = ltb (x .limit) 8 in
-    let o = ltb (x .gpio) 32 in
-    let e3 = and-left (g && l && o) (ltb (x .test) 2) e in
-    let e2 = and-left (g && l) o e3 in
-    record {
-      global = and-left g l e2;
-      limit = and-right g l e2;
-      gpio = and-right (g && l) o e3;
-      test = and-right (g && l && o) (ltb (x .test) 2) e;
-    }
+parts x e = search (and-left, and-right)
 
 pub written-sound : (x : Controls) (c : ControlRegister) (v : ℕ) → soundControls x ≡ true → soundControls (controlWritten x c v) ≡ true
 written-sound x DecodeMode v e = e

@@ -1,6 +1,6 @@
 -- The control registers by their widths.
 -- Assumes nothing.
-use Rattle.ground.proofs.Names.{ℕ, _+_, _*_, _%_, _^_, _<_, arith, Bool, true, _&&_, [], _∷_, map, _≡_, refl, eqb, ltb, bitAnd, eqb-true, ltb-true, lt-ltb, all-at, and-left, and-right}
+use Rattle.ground.proofs.Names.{ℕ, _+_, _*_, _%_, _^_, _<_, arith, true, [], _∷_, map, _≡_, refl, eqb, ltb, bitAnd, eqb-true, ltb-true, lt-ltb, all-at, and-left, and-right}
 use Rattle.words.specs.declared.Plane.{Plane}
 use Rattle.words.specs.declared.Plane.the-variants.{P0, P1}
 use Rattle.words.specs.declared.ControlRegister.{ControlRegister}
@@ -20,38 +20,21 @@ stored x DisplayTest v h = refl
 stored x DigitType v h = omega arith
 
 module _ (x : Controls) (s : soundControls x ≡ true) where
-  abbrev global : Bool
-  global = ltb (x .global) 16
-
-  abbrev limit : Bool
-  limit = ltb (x .limit) 8
-
-  abbrev gpio : Bool
-  gpio = ltb (x .gpio) 32
-
-  first-three : (global && limit && gpio) ≡ true
-  first-three = and-left (global && limit && gpio) (ltb (x .test) 2) s
-
-  first-two : (global && limit) ≡ true
-  first-two = and-left (global && limit) gpio first-three
+  first-three : (ltb (x .global) 16 ≡ true) × (ltb (x .limit) 8 ≡ true) × (ltb (x .gpio) 32 ≡ true)
+  first-three = search (and-left, and-right)
 
   fits : (c : ControlRegister) → widthOf c < 8 → storedIn x c < 2 ^ widthOf c
   fits DecodeMode h = absurd (omega arith)
-  fits GlobalIntensity h = ltb-true (x .global) 16 (and-left global limit first-two)
-  fits ScanLimit h = ltb-true (x .limit) 8 (and-right global limit first-two)
-  fits GpioData h = ltb-true (x .gpio) 32 (and-right (global && limit) gpio first-three)
+  fits GlobalIntensity h = ltb-true (x .global) 16 (first-three .0)
+  fits ScanLimit h = ltb-true (x .limit) 8 (first-three .1)
+  fits GpioData h = ltb-true (x .gpio) 32 (first-three .2)
   fits PortConfiguration h = absurd (omega arith)
-  fits DisplayTest h = ltb-true (x .test) 2 (and-right (global && limit && gpio) (ltb (x .test) 2) s)
+  fits DisplayTest h = ltb-true (x .test) 2 (search and-right)
   fits DigitType h = absurd (omega arith)
 
 sound : (x : Controls) → ((c : ControlRegister) → storedIn x c < 2 ^ widthOf c) → soundControls x ≡ true
 sound x f =
-    rw (
-      lt-ltb (x .global) 16 (f GlobalIntensity),
-      lt-ltb (x .limit) 8 (f ScanLimit),
-      lt-ltb (x .gpio) 32 (f GpioData),
-      lt-ltb (x .test) 2 (f DisplayTest),
-    )
+    rw (lt-ltb _ _ (f GlobalIntensity), lt-ltb _ _ (f ScanLimit), lt-ltb _ _ (f GpioData), lt-ltb _ _ (f DisplayTest))
 
 alone : map configOf (0x40 ∷ 0x08 ∷ 0x04 ∷ 0x01 ∷ [])
     ≡ record { i = 1; e = 0; b = 0; s = 0 }

@@ -27,20 +27,17 @@ byte-or i a b = rw (or-shr, or-mod _ _ 8)
 -- a sum of which no byte carries into the next
 pub byte-add : (n i a b : ℕ) → i < n → ((j : ℕ) → j < n → byteOf a j + byteOf b j < 256) → byteOf (a + b) i ≡ byteOf a i + byteOf b i
 byte-add zero i a b h small = absurd (not-suc-le-zero h)
-byte-add (suc n) zero a b h small =
-    rw (byte-first, byte-first, byte-first) (omega (arith, rw (byte-first, byte-first) at (small 0 (omega arith))))
+byte-add (suc n) zero a b h small = simp byte-first (omega (arith, simp byte-first at (small 0 (omega arith))))
 byte-add (suc n) (suc i) a b h small =
-    let s : a % 256 + b % 256 < 256 = rw (byte-first, byte-first) at (small 0 (omega arith)) in
-    let e : (a + b) / 256 ≡ a / 256 + b / 256 = omega arith in
-    rw (byte-next, byte-next, byte-next, e)
-    (byte-add n i (a / 256) (b / 256) (omega arith) (λ j l. rw (byte-next, byte-next) at (small (suc j) (omega arith))))
+    let e : (a + b) / 256 ≡ a / 256 + b / 256 = omega (arith, simp byte-first at (small 0 (omega arith))) in
+    simp (byte-next, e) (byte-add n i (a / 256) (b / 256) (omega arith) (λ j l. simp byte-next at (small (suc j) (omega arith))))
 
 -- the highest bit of byte i, shifted to its lowest
 pub byte-shifted : (i w : ℕ) → byteOf (w / 2 ^ 7) i % 2 ≡ byteOf w i / 128
-byte-shifted zero w = rw (byte-first, byte-first) (omega arith)
+byte-shifted zero w = simp byte-first (omega arith)
 byte-shifted (suc i) w =
     let e : w / 2 ^ 7 / 256 ≡ w / 256 / 2 ^ 7 = omega arith in
-    rw (byte-next, byte-next, e) (byte-shifted i (w / 256))
+    simp (byte-next, e) (byte-shifted i (w / 256))
 
 -- a byte eight times
 abbrev alike : ℕ → ℕ → Bool

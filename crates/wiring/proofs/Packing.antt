@@ -1,6 +1,6 @@
 -- A packed row holds what the rule says of each pin, by one test that is computed over the 24 rows.
 -- Assumes nothing.
-use Rattle.ground.proofs.Names.{ℕ, _<_, _≤_, Bool, true, _&&_, _≡_, refl, eqb, eqb-true, le-ltb, all, all-at, and-left, and-right}
+use Rattle.ground.proofs.Names.{ℕ, _<_, Bool, true, _&&_, _≡_, refl, eqb, eqb-true, all, all-at, and-left, and-right}
 use Rattle.wiring.specs.PackedRows.{packedPins, packedRow, sixPins, firstPins}
 use Rattle.wiring.specs.declared.Display.{Display}
 use Rattle.wiring.specs.declared.Display.the-variants.{Sixteen, Fourteen, SevenPair}
@@ -11,20 +11,13 @@ use Rattle.wiring.specs.declared.PackedRow.{PackedRow}
 unfoldable same : PackedPins → PackedPins → Bool
 same a b = eqb (a .lit) (b .lit) && (eqb (a .low) (b .low) && (eqb (a .high) (b .high) && eqb (a .point) (b .point)))
 
-pins : {l l' m m' h h' p p' : ℕ} → l ≡ l' → m ≡ m' → h ≡ h' → p ≡ p'
+pins : {l l' m m' h h' p p' : ℕ} → (l ≡ l') × (m ≡ m') × (h ≡ h') × (p ≡ p')
     → _≡_ {A = PackedPins} (record { lit = l; low = m; high = h; point = p }) (record { lit = l'; low = m'; high = h'; point = p' })
-pins e f g i = rw (e, f, g, i)
+pins (e, f, g, i) = rw (e, f, g, i)
 
 same-pins : (a b : PackedPins) → same a b ≡ true → a ≡ b
 unfolding same
-same-pins a b t =
-    let t2 = and-right (eqb (a .lit) (b .lit)) _ t in
-    let t3 = and-right (eqb (a .low) (b .low)) _ t2 in
-    pins
-    (eqb-true _ _ (and-left (eqb (a .lit) (b .lit)) _ t))
-    (eqb-true _ _ (and-left (eqb (a .low) (b .low)) _ t2))
-    (eqb-true _ _ (and-left (eqb (a .high) (b .high)) _ t3))
-    (eqb-true _ _ (and-right (eqb (a .high) (b .high)) _ t3))
+same-pins a b t = pins (search (eqb-true, and-left, and-right))
 
 module _ (k : Display) (d : ℕ) where
   abbrev row : Bool
@@ -36,22 +29,13 @@ tested Sixteen = refl
 tested Fourteen = refl
 tested SevenPair = refl
 
--- the row of a cathode, and of a number that is none
+-- the row of a cathode
 pub packed-row : (k : Display) (d : ℕ) → d < 8
     → _≡_ {A = PackedRow} (record { first = firstPins (sixPins k) d; middle = packedPins k 0 8; last = packedPins k 0 16 }) (packedRow k d)
 packed-row k d h =
     let t = all-at (row k) 8 (tested k) d h in
-    let rest = and-right (same (firstPins (sixPins k) d) (packedPins k d 0)) _ t in
     rw (
-      same-pins (firstPins (sixPins k) d) (packedPins k d 0) (and-left (same (firstPins (sixPins k) d) (packedPins k d 0)) _ t),
-      same-pins (packedPins k 0 8) (packedPins k d 8) (and-left (same (packedPins k 0 8) (packedPins k d 8)) _ rest),
-      same-pins (packedPins k 0 16) (packedPins k d 16) (and-right (same (packedPins k 0 8) (packedPins k d 8)) _ rest),
+      same-pins (firstPins (sixPins k) d) (packedPins k d 0) (search and-left),
+      same-pins (packedPins k 0 8) (packedPins k d 8) (search (and-left, and-right)),
+      same-pins (packedPins k 0 16) (packedPins k d 16) (search and-right),
     )
-
-pub no-row-packed : (k : Display) (d : ℕ) → 8 ≤ d
-    → _≡_ {A = PackedRow} (record {
-      first = record { lit = 0; low = 0; high = 0; point = 0 };
-      middle = record { lit = 0; low = 0; high = 0; point = 0 };
-      last = record { lit = 0; low = 0; high = 0; point = 0 };
-    }) (packedRow k d)
-no-row-packed k d h = rw (le-ltb d 8 h)

@@ -1,10 +1,10 @@
 -- `wiring::packed_row` meets its contract. Assumes nothing.
-use Rattle.ground.proofs.Names.{arith, needs}
-use Rattle.wiring.proofs.Packing.{packed-row, no-row-packed}
+use Rattle.ground.proofs.Names.{arith, le-ltb, needs}
+use Rattle.wiring.proofs.Packing.{packed-row}
 use Rattle.wiring.proofs.packed_row.Tie as tie
 
 returns : tie.Need-returns
-returns c = no-row-packed (c .before .args .display) (c .before .args .cathode) (c .if1 .taken)
+returns c = rw (le-ltb (c .before .args .cathode) 8 (c .if1 .taken))
 
 returns-2 : tie.Need-returns-2
 returns-2 c =

@@ -1,6 +1,6 @@
 -- `wiring::wires` meets its contract. Assumes nothing.
-use Rattle.ground.proofs.Names.{_∙_, tabulate, needs}
-use Rattle.wiring.proofs.Wired.{wired-row, no-row}
+use Rattle.ground.proofs.Names.{_∙_, le-ltb, tabulate, needs}
+use Rattle.wiring.proofs.Wired.{wired-row}
 use Rattle.wiring.proofs.wires.Tie as tie
 
 returns : tie.Need-returns
@@ -8,7 +8,7 @@ returns c = c .entries .ensures ∙ wired-row (c .before .before .before .args .
 
 returns-2 : tie.Need-returns-2
 unfolding tabulate
-returns-2 c = no-row (c .before .args .display) _ (c .if1 .left)
+returns-2 c = simp (le-ltb _ 8 (c .if1 .left))
 
 pub wires-spec : {M : Type 1} → Rattle.wiring.proofs.wires.Statement.statement M
 wires-spec =

@@ -1,6 +1,6 @@
 -- The segments of a hex digit are those of Table 11, none where it is blank, by one computed test over all bytes.
 -- Assumes nothing.
-use Rattle.ground.proofs.Names.{ℕ, _+_, _%_, _<_, arith, Bool, true, false, Bool·beq, _≡_, refl, eqb, ltb, lit<, getD, eqb-true, ltb-true, if, bit, all, all-at, same}
+use Rattle.ground.proofs.Names.{ℕ, _+_, _%_, _<_, arith, Bool, true, false, Bool·beq, _≡_, refl, eqb, ltb, getD, eqb-true, ltb-true, if, bit, all, all-at, same, if-small}
 use Rattle.wiring.specs.PackedRows.{byteOf, packed}
 use Rattle.glyphs.specs.Glyphs.{sevenLit}
 use Rattle.glyphs.specs.Masks.{hexFont, hexSegments, sevenSegments}
@@ -13,15 +13,10 @@ pub hex-byte : (k w : ℕ) → k < 16 → w ≡ word k → byteOf w (k % 8) ≡ 
 hex-byte k w h e = rw e (eqb-true _ _ (all-at (λ c. eqb (byteOf (word c) (c % 8)) (getD hexFont c 0)) 16 refl k h))
 
 -- a character's segments a to g are seven bits
-hex-small : (c : ℕ) → c < 16 → getD hexFont c 0 < 128
-hex-small c h = ltb-true _ _ (all-at (λ k. ltb (getD hexFont k 0) 128) 16 refl c h)
-
 pub hex-segments-small : (v : ℕ) → hexSegments v < 128
-hex-segments-small v = go (eqb (v % 128) 16)
-  where
-    go : (b : Bool) → if b 0 (getD hexFont (v % 16) 0) < 128
-    go true = lit< tt
-    go false = hex-small (v % 16) (omega arith)
+hex-segments-small v =
+    let small = all-at (λ k. ltb (getD hexFont k 0) 128) 16 refl (v % 16) (omega arith) in
+    ltb-true _ _ (if-small (eqb (v % 128) 16) 0 (getD hexFont (v % 16) 0) 128 refl small)
 
 -- the segments of a 7-segment digit are eight bits
 pub seven-small : (hex : Bool) (v : ℕ) → v < 256 → sevenSegments hex v < 256

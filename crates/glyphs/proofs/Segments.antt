@@ -1,6 +1,6 @@
 -- Each segment of a display's list is its bit of the lit segments.
 -- Assumes nothing.
-use Rattle.ground.proofs.Names.{ℕ, _+_, _*_, _/_, _%_, _^_, _<_, arith, Bool, true, false, true≢false, List, _≡_, refl, ap, sym, _∙_, ltb, getD, ltb-true, bit, all-at, low-bit, high-bit}
+use Rattle.ground.proofs.Names.{ℕ, _+_, _*_, _/_, _%_, _^_, _<_, arith, Bool, true, false, not, _&&_, List, _≡_, refl, ap, sym, _∙_, ltb, getD, ltb-true, bit, all-at, low-bit, high-bit}
 use Rattle.wiring.specs.Segments.{none, sixteen, fourteen, pair, Light, nothing, glyph, point, first, second, lightOf}
 use Rattle.wiring.specs.Wiring.{digitBy}
 use Rattle.wiring.specs.Table.{lightEntry}
@@ -20,20 +20,13 @@ above w k x y e = high-bit w k (x * 2 ^ w + y) ∙ ap (bit k) e
 none-above : (x : ℕ) → x / 2 ^ 17 ≡ 0 → bit 17 x ≡ false
 none-above x e = high-bit 17 0 x ∙ ap (bit 0) e
 
--- what lights a segment of a 14- or 16-segment digit, and one of a 7-segment pair
-abbrev word-light : Light → Bool
-word-light nothing = true
-word-light (glyph n) = ltb n 16
-word-light point = true
-word-light (first n) = false
-word-light (second n) = false
-
-abbrev pair-light : Light → Bool
-pair-light nothing = true
-pair-light (glyph n) = false
-pair-light point = false
-pair-light (first n) = ltb n 8
-pair-light (second n) = ltb n 8
+-- what lights a segment of a 7-segment pair, or of a 14- or 16-segment digit
+abbrev light : Bool → Light → Bool
+light pair nothing = true
+light pair (glyph n) = not pair && ltb n 16
+light pair point = not pair
+light pair (first n) = pair && ltb n 8
+light pair (second n) = pair && ltb n 8
 
 module _ (hex : Bool) (font : List ℕ) (byte : ℕ → ℕ) (d : ℕ) (hd : byte d < 256) (ha : byte (d + 8) < 256) (words : (i : ℕ) → getD font i 0 < 65536) where
   abbrev lit : Light → Bool
@@ -42,12 +35,12 @@ module _ (hex : Bool) (font : List ℕ) (byte : ℕ → ℕ) (d : ℕ) (hd : byt
   abbrev word : ℕ
   word = getD font (byte d % 128) 0
 
-  of-glyph : (l : Light) → word-light l ≡ true → bit (lightEntry l) (glyphSegments font (byte d)) ≡ lit l
+  of-glyph : (l : Light) → light false l ≡ true → bit (lightEntry l) (glyphSegments font (byte d)) ≡ lit l
   of-glyph nothing e = none-above (byte d / 128 * 65536 + word) (omega (arith, words (byte d % 128), hd))
   of-glyph (glyph n) e = below 16 n (byte d / 128) word (ltb-true n 16 e) (omega (arith, words (byte d % 128)))
   of-glyph point e = above 16 0 (byte d / 128) word (omega (arith, words (byte d % 128))) ∙ sym (high-bit 7 0 (byte d))
-  of-glyph (first n) e = absurd (true≢false (sym e))
-  of-glyph (second n) e = absurd (true≢false (sym e))
+  of-glyph (first n) e = cc
+  of-glyph (second n) e = cc
 
   abbrev seven : ℕ → ℕ
   seven i = sevenSegments hex (byte i)
@@ -55,10 +48,10 @@ module _ (hex : Bool) (font : List ℕ) (byte : ℕ → ℕ) (d : ℕ) (hd : byt
   small : seven d < 256
   small = seven-small hex (byte d) hd
 
-  of-pair : (l : Light) → pair-light l ≡ true → bit (lightEntry l) (pairSegments hex (byte d) (byte (d + 8))) ≡ lit l
+  of-pair : (l : Light) → light true l ≡ true → bit (lightEntry l) (pairSegments hex (byte d) (byte (d + 8))) ≡ lit l
   of-pair nothing e = none-above (seven (d + 8) * 256 + seven d) (omega (arith, small, seven-small hex (byte (d + 8)) ha))
-  of-pair (glyph n) e = absurd (true≢false (sym e))
-  of-pair point e = absurd (true≢false (sym e))
+  of-pair (glyph n) e = cc
+  of-pair point e = cc
   of-pair (first n) e =
       below 8 n (seven (d + 8)) (seven d) (ltb-true n 8 e) (omega (arith, small)) ∙ seven-lit hex (byte d) n hd (ltb-true n 8 e)
   of-pair (second n) e =
@@ -66,8 +59,8 @@ module _ (hex : Bool) (font : List ℕ) (byte : ℕ → ℕ) (d : ℕ) (hd : byt
 
 pub segment-by-segment : SegmentBySegment
 segment-by-segment Sixteen hex font byte d r hd ha words h =
-    of-glyph hex font byte d hd ha words (lightOf (getD sixteen r none)) (all-at (λ q. word-light (lightOf (getD sixteen q none))) 17 refl r h)
+    of-glyph hex font byte d hd ha words (lightOf (getD sixteen r none)) (all-at (λ q. light false (lightOf (getD sixteen q none))) 17 refl r h)
 segment-by-segment Fourteen hex font byte d r hd ha words h =
-    of-glyph hex font byte d hd ha words (lightOf (getD fourteen r none)) (all-at (λ q. word-light (lightOf (getD fourteen q none))) 17 refl r h)
+    of-glyph hex font byte d hd ha words (lightOf (getD fourteen r none)) (all-at (λ q. light false (lightOf (getD fourteen q none))) 17 refl r h)
 segment-by-segment SevenPair hex font byte d r hd ha words h =
-    of-pair hex font byte d hd ha words (lightOf (getD pair r none)) (all-at (λ q. pair-light (lightOf (getD pair q none))) 17 refl r h)
+    of-pair hex font byte d hd ha words (lightOf (getD pair r none)) (all-at (λ q. light true (lightOf (getD pair q none))) 17 refl r h)

@@ -20,12 +20,9 @@ others m n k f g = go (ltb m k) refl
 fast-half : (count : ℕ) → phaseAt (advanced count 1000000) true ≡ other (phaseAt count true)
 fast-half count = others (count % 2000000) (advanced count 1000000 % 2000000) 1000000 (λ l. omega arith) (λ l. omega arith)
 
-slow-half : (count : ℕ) → count < 4000000 → phaseAt (advanced count 2000000) false ≡ other (phaseAt count false)
-slow-half count h = others count (advanced count 2000000) 2000000 (λ l. omega arith) (λ l. omega arith)
-
 half-on : (count : ℕ) (fast : Bool) → count < 4000000 → phaseAt (advanced count (half fast)) fast ≡ other (phaseAt count fast)
 half-on count true h = fast-half count
-half-on count false h = slow-half count h
+half-on count false h = others count (advanced count 2000000) 2000000 (λ l. omega arith) (λ l. omega arith)
 
 pub phases : Phases
 phases =

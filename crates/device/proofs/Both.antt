@@ -1,6 +1,6 @@
 -- The proof of `specs/BothBuses.antt`'s theorem.
 -- Assumes nothing.
-use Rattle.ground.proofs.Names.{ℕ, _+_, _*_, _/_, _%_, _^_, _<_, arith, true, false, _≡_, refl, _∙_, eq-eqb, ne-eqb, lt-ltb, bit}
+use Rattle.ground.proofs.Names.{ℕ, _+_, _*_, _/_, _%_, _^_, _<_, arith, true, _≡_, refl, _∙_, eq-eqb, ne-eqb, lt-ltb, bit}
 use Rattle.words.specs.Addresses.{wordOf}
 use Rattle.words.specs.declared.Word.{Word}
 use Rattle.words.specs.declared.Word.the-variants.{Write, Read}
@@ -12,33 +12,26 @@ use Rattle.device.specs.declared.Device.{Device}
 use Rattle.device.proofs.Shift.{shift-word}
 
 module _ (d : Device) (h : d .command < 128) where
-  -- the read word's D15 and address, the write word's D15
+  -- the read word's D15 and address
   high : bit 15 (0x8000 + d .command * 256) ≡ true
   high = eq-eqb ((0x8000 + d .command * 256) / 2 ^ 15 % 2) 1 (omega arith)
 
   place : (0x8000 + d .command * 256) / 256 % 128 ≡ d .command
   place = omega arith
 
-  low : (v : ℕ) → v < 256 → bit 15 (d .command * 256 + v) ≡ false
-  low v g = ne-eqb ((d .command * 256 + v) / 2 ^ 15 % 2) 1 (λ e. omega arith)
-
   write-both : (v : ℕ) → v < 256 → received d v .registers ≡ taken d (d .command * 256 + v) .registers
   unfolding received taken
   write-both v g =
       let a : (d .command * 256 + v) / 256 % 128 ≡ d .command = omega arith in
       let m : (d .command * 256 + v) % 256 ≡ v = omega arith in
-      rw (low v g, a, m)
-
-  read-both : sent d .registers ≡ taken d (0x8000 + d .command * 256) .registers
-  unfolding sent taken
-  read-both = rw (high, place)
+      rw (ne-eqb ((d .command * 256 + v) / 2 ^ 15 % 2) 1 (λ e. omega arith), a, m)
 
   same-registers : SameRegisters d
-  unfolding commanded sentData
+  unfolding taken commanded sent sentData
   same-registers =
       record {
         when-written = write-both;
-        when-read = read-both;
+        when-read = rw (high, place);
         data-read = shift-word .after-read d (0x8000 + d .command * 256) high ∙ rw place;
         when-commanded = λ v. refl;
       }
@@ -47,10 +40,6 @@ module _ (d : Device) (h : d .command < 128) where
 obeyed-address : (d : Device) (w : Word) → obeyed d w .command ≡ d .command
 obeyed-address d (Write r v) = refl
 obeyed-address d (Read r) = refl
-
-word-address : (d : Device) (w : ℕ) → taken d w .command ≡ d .command
-unfolding taken
-word-address d w = obeyed-address (withShift d w) (wordOf w)
 
 -- Table 6 of 001
 pub next-more : (a : ℕ) → a < 127 → nextAddress a ≡ a + 1
@@ -72,6 +61,7 @@ unfolding sent
 asked-steps d = refl
 
 address-of : (d : Device) → Address d
+unfolding taken
 address-of d =
     record {
       by-command = commanded-to d;
@@ -79,7 +69,7 @@ address-of d =
       by-asked = λ h. asked-steps d ∙ next-more (d .command) h;
       last-given = λ v e. given-steps d v ∙ next-last (d .command) e;
       last-asked = λ e. asked-steps d ∙ next-last (d .command) e;
-      by-word = word-address d;
+      by-word = λ w. obeyed-address (withShift d w) (wordOf w);
       by-scan = λ a b c e. refl;
       by-pins = λ levels. refl;
       by-clocks = λ clocks. refl;

@@ -1,6 +1,6 @@
 -- Nothing that a driver is given changes its fitted byte.
 -- Assumes nothing.
-use Rattle.ground.proofs.Names.{ℕ, _≡_, refl}
+use Rattle.ground.proofs.Names.{_≡_, refl}
 use Rattle.words.specs.Addresses.{wordOf}
 use Rattle.words.specs.declared.Word.{Word}
 use Rattle.words.specs.declared.Word.the-variants.{Write, Read}
@@ -14,14 +14,10 @@ obeyed-fitted : (d : Device) (w : Word) → obeyed d w .fitted ≡ d .fitted
 obeyed-fitted d (Write r v) = refl
 obeyed-fitted d (Read r) = refl
 
-taken-fitted : (d : Device) (w : ℕ) → taken d w .fitted ≡ d .fitted
-unfolding taken
-taken-fitted d w = obeyed-fitted (withShift d w) (wordOf w)
-
 pub fitted-byte : FittedByte
-unfolding commanded received sent
+unfolding taken commanded received sent
 fitted-byte = record {
-  after-word = taken-fitted;
+  after-word = λ d w. obeyed-fitted (withShift d w) (wordOf w);
   after-scan = λ x a b c d. refl;
   after-pins = λ d levels. refl;
   after-clocks = λ d clocks. refl;

@@ -1,6 +1,6 @@
 -- A pin's byte of a packed row and the segments that aren't lit is the number of the pin by the wiring table.
 -- Assumes nothing.
-use Rattle.ground.proofs.Names.{ℕ, zero, suc, _+_, _-_, _*_, _/_, _%_, _^_, _<_, arith, Bool, true, false, not, _&&_, _||_, Bool·beq, _≡_, refl, ap, sym, _∙_, bitAnd, bitOr, and-le-r, and-zero-r, or-zero-l, or-zero-r, and-mask, eqb, ltb, eqb-true, lt-ltb, ltb-true, ltb-false, if, bit, all, all-at, low-bit, high-bit, not-bit, same}
+use Rattle.ground.proofs.Names.{ℕ, zero, suc, _+_, _-_, _*_, _/_, _%_, _^_, _<_, arith, Bool, true, false, not, _&&_, _||_, Bool·beq, _≡_, refl, ap, sym, _∙_, bitAnd, bitOr, and-le-r, and-zero-r, or-zero-l, or-zero-r, and-mask, eqb, ltb, eqb-true, lt-ltb, ltb-true, ltb-false, if, bit, all, all-at, low-bit, high-bit, not-bit, same, if-small}
 use Rattle.wiring.specs.Segments.{Light, nothing, glyph, point, first, second, lightOf, isLight, isSegment}
 use Rattle.wiring.specs.Wiring.{Wire, cathode, notDriven, carries, wireAt}
 use Rattle.wiring.specs.Table.{lightEntry, wireEntry}
@@ -40,20 +40,14 @@ picked u n =
 
 -- what is packed are bytes
 small-bit : (g n : ℕ) → entryBit g n < 256
-small-bit g n = go (ltb n 17 && eqb (n / 8) g)
-  where
-    go : (b : Bool) → if b (2 ^ (n % 8)) 0 < 256
-    go true = ltb-true _ _ (all-at (λ k. ltb (2 ^ k) 256) 8 refl (n % 8) (omega arith))
-    go false = omega arith
+small-bit g n =
+    let small = all-at (λ k. ltb (2 ^ k) 256) 8 refl (n % 8) (omega arith) in
+    ltb-true _ _ (if-small (ltb n 17 && eqb (n / 8) g) (2 ^ (n % 8)) 0 256 small refl)
 
 small-number : (w : Wire) → litNumber w < 256
 small-number cathode = omega arith
 small-number notDriven = omega arith
-small-number (carries s) = go (isSegment s)
-  where
-    go : (b : Bool) → if b 2 4 < 256
-    go true = omega arith
-    go false = omega arith
+small-number (carries s) = ltb-true _ _ (if-small (isSegment s) 2 4 256 refl refl)
 
 -- the byte of a pin, by what the pin is to the cathode
 module _ (u i : ℕ) (wire : ℕ → Wire) (h : i < 8) where
@@ -62,19 +56,8 @@ module _ (u i : ℕ) (wire : ℕ → Wire) (h : i < 8) where
 
   carried : byteOf (carriedBy u (packedWires 8 wire)) i ≡ picked u (wireEntry (wire i))
   carried =
-      rw (
-        byte-or,
-        byte-or,
-        byte-and,
-        byte-and,
-        byte-and,
-        byte-repeated (byteOf u 0) i (omega arith) h,
-        byte-repeated (byteOf u 1) i (omega arith) h,
-        byte-repeated (byteOf u 2) i (omega arith) h,
-        bits 0,
-        bits 1,
-        bits 2,
-      )
+      let small : (g : ℕ) → byteOf u g < 256 = λ g. omega arith in
+      simp (byte-or, byte-and, byte-repeated, small, bits 0, bits 1, bits 2)
 
   eight : byteOf (eightPins u (packedWires 8 wire)) i ≡ bitOr (litNumber (wire i)) (if (eqb (picked u (wireEntry (wire i))) 0) 0 1)
   unfolding eightPins

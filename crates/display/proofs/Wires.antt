@@ -1,6 +1,6 @@
 -- A pin by its entry of the wiring table is the pin that the rule gives.
 -- Assumes nothing.
-use Rattle.ground.proofs.Names.{ℕ, _+_, _-_, _^_, _<_, arith, Bool, true, false, _||_, List, _≡_, refl, ap, _∙_, eqb, ltb, getD, lt-ltb, ltb-true, if, bit, tabulate, all, all-at, tabulate-ext}
+use Rattle.ground.proofs.Names.{ℕ, _+_, _-_, _^_, _<_, Bool, true, false, _||_, List, _≡_, refl, ap, _∙_, eqb, ltb, getD, lt-ltb, ltb-true, if, bit, tabulate, all, all-at, tabulate-ext}
 use Rattle.device.specs.declared.Device.{Device}
 use Rattle.wiring.specs.Segments.{Segment, none, listOf, Light, nothing, glyph, point, first, second, lightOf, isLight}
 use Rattle.wiring.specs.Wiring.{cathode, notDriven, carries, digitOf, partner, place, ruleAt, wireAt}
@@ -18,17 +18,14 @@ use Rattle.display.specs.Cathode.{displayOf, shownByte, hexMode, fontOf,
 use Rattle.display.specs.Pins.{pinCode, pinOf, pinAt}
 use Rattle.display.specs.declared.Pin.{Pin}
 use Rattle.display.specs.declared.Pin.the-variants.{NotDriven, Lit, Unlit, NoSegment}
-use Rattle.display.specs.ByTable.{allSegments, litSegments, pinBy, tablePin, PinByPin}
+use Rattle.display.specs.ByTable.{allSegments, litSegments, pinBy, PinByPin}
 use Rattle.display.specs.PackedPins.{pinsBy}
 use Rattle.display.proofs.Packing.{numbered, row-pin}
 
 -- a pin's place is one of the list's
 place-lt : (d p : ℕ) → d < 8 → p < 19 → place d p < 17
-place-lt d p hd hp = go (ltb p d) refl
-  where
-    go : (b : Bool) → ltb p d ≡ b → if b p (p - 2) < 17
-    go true e = omega (arith, ltb-true p d e)
-    go false e = omega arith
+place-lt d p hd hp =
+    ltb-true _ _ (all-at (λ q. ltb (place d q) 17) 19 (all-at (λ c. all (λ q. ltb (place c q) 17) 19) 8 refl d hd) p hp)
 
 -- a pin that carries a segment is lit where the segment's bit is set, as all are in display test
 bit-pin : (t : Bool) (n segments : ℕ) (on : Bool) → ltb n 17 ≡ true → bit n segments ≡ on → pinBy (if t allSegments segments) n ≡ if (t || on) Lit Unlit
@@ -92,25 +89,20 @@ module _ (x : Device) (d : ℕ) (font14 font16 : List ℕ)
   pin-at : (p : ℕ) → p < 19 → if (dark x d) NotDriven (by-table p) ≡ pinAt x d font14 font16 p
   pin-at p hp = rw (lt-ltb d 8 hd, lt-ltb p 19 hp, rule-pin p hp)
 
-  table-pin : (p : ℕ) → p < 19 → tablePin x d font14 font16 p ≡ pinAt x d font14 font16 p
-  table-pin p hp = rw (wired .entries k d p hd hp) (pin-at p hp)
-
   -- the pins of a cathode that is not dark
-  pub pins-lit : (segments : ℕ) (r : Display) (row : PackedRow) → segments < 2 ^ 64 → dark x d ≡ false → r ≡ k → segments ≡ litSegments x d font14 font16
+  pub pins-lit : {segments : ℕ} {r : Display} {row : PackedRow} → segments < 2 ^ 64 → dark x d ≡ false → r ≡ k → segments ≡ litSegments x d font14 font16
       → row ≡ packedRow r d
       → pinsBy (2 ^ 64 - 1 - segments) row ≡ tabulate 19 (λ p. pinCode (pinAt x d font14 font16 p))
-  pins-lit segments r row hs bright e es er =
-      rw (er, e) (tabulate-ext 19 _ _ (λ p hp. row-pin k d p segments hd hp hs ∙ ap pinCode (read p hp ∙ chosen p ∙ pin-at p hp)))
+  pins-lit {segments} hs bright e es er =
+      rw (er, e) (tabulate-ext 19 _ _ (λ p hp. row-pin k d p segments hd hp hs ∙ ap pinCode (read p hp ∙ pin-at p hp)))
     where
-      read : (p : ℕ) → p < 19 → pinBy segments (wireEntry (wireAt k d p)) ≡ by-table p
-      read p hp = rw (es, lt-ltb d 8 hd, lt-ltb p 19 hp)
-
-      chosen : (p : ℕ) → by-table p ≡ if (dark x d) NotDriven (by-table p)
-      chosen p = rw bright
+      read : (p : ℕ) → p < 19 → pinBy segments (wireEntry (wireAt k d p)) ≡ if (dark x d) NotDriven (by-table p)
+      read p hp = rw (es, lt-ltb d 8 hd, lt-ltb p 19 hp, bright)
 
 pub pin-by-pin : PinByPin
-pin-by-pin x d font14 font16 p first-byte second-byte words14 words16 hd hp = table-pin x d font14 font16 first-byte second-byte words14 words16 hd p hp
+pin-by-pin x d font14 font16 p first-byte second-byte words14 words16 hd hp =
+    rw (wired .entries (displayOf x d) d p hd hp) (pin-at x d font14 font16 first-byte second-byte words14 words16 hd p hp)
 
 -- the pins of a dark cathode
 pub pins-dark : (x : Device) (d : ℕ) (font14 font16 : List ℕ) → dark x d ≡ true → tabulate 19 (λ p. 0) ≡ tabulate 19 (λ p. pinCode (pinAt x d font14 font16 p))
-pins-dark x d font14 font16 e = tabulate-ext 19 _ _ (λ p hp. rw e)
+pins-dark x d font14 font16 e = simp e

@@ -28,9 +28,6 @@ returns-2 c =
     (λ i. dark .before .before .before .shared-slice-known .given i .fits)
     (λ i. dark .before .before .shared-slice-known2 .given i .fits)
     (start .pre)
-    _
-    _
-    _
     (omega (arith, lit .shown-segments .ok))
     (sym (dark .before .is-dark .ensures) ∙ dark .if1 .left)
     display

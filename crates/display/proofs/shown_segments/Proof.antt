@@ -1,21 +1,15 @@
 -- `display::shown_segments` meets its contract. Assumes nothing.
-use Rattle.ground.proofs.Names.{false, _≡_, needs}
+use Rattle.ground.proofs.Names.{needs}
 use Rattle.display.proofs.shown_segments.Tie as tie
 
 returns-2 : tie.Need-returns-2
-returns-2 c =
-    let off : c .before .before .before .before .before .before .args .test ≡ false = c .before .before .before .if1 .left in
-    rw off (simp (c .before .enum-told .given .1, c .glyph-segments .ensures))
+returns-2 c = simp (c .before .before .before .if1 .left, c .before .enum-told .given .1, c .glyph-segments .ensures)
 
 returns-3 : tie.Need-returns-3
-returns-3 c =
-    let off : c .before .before .before .before .before .before .args .test ≡ false = c .before .before .before .if1 .left in
-    rw off (simp (c .before .enum-told2 .given .1, c .glyph-segments2 .ensures))
+returns-3 c = simp (c .before .before .before .if1 .left, c .before .enum-told2 .given .1, c .glyph-segments2 .ensures)
 
 returns-4 : tie.Need-returns-4
-returns-4 c =
-    let off : c .before .before .before .before .before .before .args .test ≡ false = c .before .before .before .if1 .left in
-    rw off (simp (c .before .enum-told3 .given .1, c .pair-segments .ensures))
+returns-4 c = simp (c .before .before .before .if1 .left, c .before .enum-told3 .given .1, c .pair-segments .ensures)
 
 pub shown-segments-spec : {M : Type 1} → Rattle.display.proofs.shown_segments.Statement.statement M
 shown-segments-spec =

@@ -1,12 +1,13 @@
 -- The calls by value do on a row what they do on a lent chain of its records.
---     length-short, length-long                    how many records there are
+--     length-records                               how many records there are
 --     number-found, call-found, access-found       the number
 --     in-row                                       a driver that is named is one of the sixteen
 --     give-refused, give-done                      a call that gives a driver something
 --     show-refused, show-done                      what a cathode shows, and the answer mark
 --     access-refused, access-done                  an access
 -- Assumes nothing.
-use Rattle.ground.proofs.Names.{ℕ, zero, suc, _-_, _≤_, _<_, arith, Bool, true, false, List, [], _∷_, _++_, append-nil, _≡_, refl, sym, ap, _∙_, eqb, length, getD, take, drop, set, replicate, take-append-drop, length-append, List·getD-append, length-take-le, take-all, set-append-left, drop-length, ne-eqb, if, tabulate, tabulate-ext}
+use Rattle.ground.proofs.Names.{ℕ, _-_, _≤_, _<_, min, arith, Bool, true, false, List, [], _∷_, _++_, append-nil, _≡_, refl, sym, ap, _∙_, eqb, length, getD, take, drop, set, replicate, length-take, take-append-drop, take-append-seam, List·getD-append, set-append-left, drop-length, ne-eqb, if, tabulate, tabulate-ext}
+use lib.Seq.{drop-append-seam}
 use Rattle.refusals.specs.Refusals.{chainRefusal, driverRefusal, soundRefusal, sizeRefusal}
 use Rattle.refusals.proofs.RefusalLaws.{found-last}
 use Rattle.wire.specs.Shift.{wordsAfter, roomAfter}
@@ -29,40 +30,29 @@ use Rattle.row.specs.declared.Row.{Row}
 -- ---- the first n of a list, and the others
 module _ {A : Type 0} where
   part-take : (n : ℕ) (xs : List A) → take (length (take n xs)) xs ≡ take n xs
-  part-take zero xs = refl
-  part-take (suc n) [] = refl
-  part-take (suc n) (x ∷ xs) = ap (λ l. x ∷ l) (part-take n xs)
-
-  part-le : (n : ℕ) (xs : List A) → length (take n xs) ≤ length xs
-  part-le n xs = omega (arith, length-append (take n xs) (drop n xs), ap length (take-append-drop n xs))
+  part-take n xs = rw take-append-drop at (take-append-seam (take n xs) (drop n xs))
 
   part-drop : (n : ℕ) (xs : List A) → drop (length (take n xs)) xs ≡ drop n xs
-  part-drop zero xs = refl
-  part-drop (suc n) [] = refl
-  part-drop (suc n) (x ∷ xs) = part-drop n xs
+  part-drop n xs = rw take-append-drop at (drop-append-seam (take n xs) (drop n xs))
 
   -- an element of the first n, and the same replaced
   part-get : (n : ℕ) (xs : List A) (i : ℕ) (z : A) → i < length (take n xs) → getD xs i z ≡ getD (take n xs) i z
-  part-get n xs i z h = ap (λ l. getD l i z) (sym (take-append-drop n xs)) ∙ List·getD-append (take n xs) (drop n xs) z i h
+  part-get n xs i z h = rw take-append-drop at (List·getD-append (take n xs) (drop n xs) z i h)
 
   part-set : (n : ℕ) (xs : List A) (i : ℕ) (f : A → A) (z : A) → i < length (take n xs)
       → set xs i (f (getD xs i z)) ≡ set (take n xs) i (f (getD (take n xs) i z)) ++ drop n xs
-  part-set n xs i f z h =
-      rw (part-get n xs i z h) (ap (λ l. set l i (f (getD (take n xs) i z))) (sym (take-append-drop n xs)) ∙ set-append-left (take n xs) (drop n xs) i _ h)
+  part-set n xs i f z h = rw (part-get n xs i z h) (rw take-append-drop at (set-append-left (take n xs) (drop n xs) i (f (getD (take n xs) i z)) h))
 
 -- ---- how many records there are
 module _ (r : Row) (sixteen : length (r .devices) ≡ 16) where
-  pub length-short : r .n < 16 → r .n ≡ length (records r)
-  length-short h = sym (length-take-le (r .n) (r .devices) (omega arith))
-
-  pub length-long : 16 ≤ r .n → 16 ≡ length (records r)
-  length-long h = rw (take-all (r .n) (r .devices) (omega arith)) (sym sixteen)
+  pub length-records : length (records r) ≡ min (r .n) 16
+  length-records = rw (length-take, sixteen)
 
   -- a driver that is named is one of the sixteen
   pub in-row : (j own k : ℕ) → k ≡ callRefusal (records r) j own → k ≡ 0 → (1 ≤ j) × (j ≤ 16)
   in-row j own k e z =
       let h = in-range (records r) j own (sym e ∙ z) in
-      (h .0, omega (arith, h .1, part-le (r .n) (r .devices)))
+      omega (arith, h, length-records)
 
 -- ---- the number of a call, once the n records are passed
 module _ (r : Row) (n : ℕ) (l : n ≡ length (records r)) where

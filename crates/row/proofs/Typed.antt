@@ -3,7 +3,7 @@
 --     all-bytes      and their bytes are bytes
 --     default        an element, whatever is read past the end
 -- Assumes nothing.
-use Rattle.ground.proofs.Names.{ℕ, zero, suc, _<_, le-of-suc-le-suc, not-suc-le-zero, List, [], _∷_, map, _≡_, refl, sym, _∙_, length, getD, take, length-map}
+use Rattle.ground.proofs.Names.{ℕ, zero, suc, _<_, List, [], _∷_, map, _≡_, sym, _∙_, length, getD, take, length-map, drop-cons}
 use mir.Val.{Val}
 use denote.Array.{each}
 use denote.Laws.{Is}
@@ -38,6 +38,4 @@ all-bytes r vs is n = go (r .devices) (records-are r vs is .0) (records-are r vs
     go (x ∷ xs) (u ∷ us) s (suc n) = (bytes-of x (u ∷ []) (s .0), go xs us (s .1) n)
 
 pub default : {A : Type 0} (d e : A) (xs : List A) (i : ℕ) → i < length xs → getD xs i d ≡ getD xs i e
-default d e [] i h = absurd (not-suc-le-zero h)
-default d e (x ∷ xs) zero h = refl
-default d e (x ∷ xs) (suc i) h = default d e xs i (le-of-suc-le-suc h)
+default d e xs i h = cc (drop-cons xs i d h, drop-cons xs i e h)

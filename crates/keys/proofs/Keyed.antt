@@ -1,6 +1,6 @@
 -- What a scan does, key by key and group by group.
 -- Assumes nothing.
-use Rattle.ground.proofs.Names.{ℕ, _-_, _/_, _<_, zero-div, arith, Bool, true, false, _&&_, or-true, true≢false, _≡_, refl, _∙_, eqb, ltb, getD, bitAnd, and-le-l, eqb-true, if, bit, all-at, and-bit, or-bit, not-bit, some-bit}
+use Rattle.ground.proofs.Names.{ℕ, _-_, _/_, _<_, zero-div, arith, Bool, true, false, _&&_, or-true, _≡_, refl, _∙_, eqb, ltb, getD, bitAnd, and-le-l, eqb-true, eq-eqb, if, bit, all-at, and-bit, or-bit, not-bit, some-bit}
 use Rattle.ground.specs.Choice.{some}
 use Rattle.words.specs.declared.KeyGroup.{KeyGroup}
 use Rattle.words.specs.declared.KeyGroup.the-variants.{A, B, C, D}
@@ -8,6 +8,13 @@ use Rattle.keys.specs.Keys.{groupOf, withGroup, withInterrupt, debounced
 use Rattle.keys.specs.KeyByKey.{table32, placeOf, keysOf, KeyScanned, KeyByKey}
 use Rattle.keys.specs.declared.Group.{Group}
 use Rattle.keys.specs.declared.Keys.{Keys}
+
+-- what holds of each of the four groups
+pub each : (P : KeyGroup → Type 0) → P A → P B → P C → P D → (g : KeyGroup) → P g
+each P a b c d A = a
+each P a b c d B = b
+each P a b c d C = c
+each P a b c d D = d
 
 key-scanned : (g : Group) (closed k : ℕ) → k < 8 → g .held < 256 → KeyScanned g closed k
 key-scanned g closed k hk hh =
@@ -35,58 +42,32 @@ grouped ports h = eqb-true _ _ (all-at (λ p. eqb (groupsOf p) (getD table32 (p 
 
 each-group : (k : Keys) (ports a b c d : ℕ) (g : KeyGroup)
     → groupOf (scannedKeys k ports a b c d) g ≡ scannedGroup (groupOf k g) (closedOf ports (placeOf g) (keysOf a b c d g))
-each-group k ports a b c d A = refl
-each-group k ports a b c d B = refl
-each-group k ports a b c d C = refl
-each-group k ports a b c d D = refl
+each-group k ports a b c d = each _ refl refl refl refl
 
 raised-by : (k : Keys) (ports a b c d : ℕ) (g : KeyGroup)
     → raises (groupOf k g) (closedOf ports (placeOf g) (keysOf a b c d g)) ≡ true → scannedKeys k ports a b c d .interrupt ≡ 1
-raised-by k ports a b c d A e = simp e
-raised-by k ports a b c d B e = simp (e, or-true)
-raised-by k ports a b c d C e = simp (e, or-true)
-raised-by k ports a b c d D e = simp (e, or-true)
+raised-by k ports a b c d = each _ (λ e. simp e) (λ e. simp (e, or-true)) (λ e. simp (e, or-true)) (λ e. simp (e, or-true))
 
 not-raised : (k : Keys) (ports a b c d : ℕ)
     → ((g : KeyGroup) → raises (groupOf k g) (closedOf ports (placeOf g) (keysOf a b c d g)) ≡ false)
     → scannedKeys k ports a b c d .interrupt ≡ k .interrupt
 not-raised k ports a b c d e = rw (e A, e B, e C, e D)
 
+-- one group replaced
+replaced : (k : Keys) (x : Group) (g h : KeyGroup) → groupOf (withGroup k g x) h ≡ if (eqb (placeOf g) (placeOf h)) x (groupOf k h)
+replaced k x = each _ (each _ refl refl refl refl) (each _ refl refl refl refl) (each _ refl refl refl refl) (each _ refl refl refl refl)
+
 own-group : (k : Keys) (g : KeyGroup) (x : Group) → groupOf (withGroup k g x) g ≡ x
-own-group k A x = refl
-own-group k B x = refl
-own-group k C x = refl
-own-group k D x = refl
+own-group k g x = replaced k x g g ∙ rw (eq-eqb (placeOf g) (placeOf g) refl)
 
 other-group : (k : Keys) (g h : KeyGroup) (x : Group) → eqb (placeOf g) (placeOf h) ≡ false → groupOf (withGroup k g x) h ≡ groupOf k h
-other-group k A A x e = absurd (true≢false e)
-other-group k A B x e = refl
-other-group k A C x e = refl
-other-group k A D x e = refl
-other-group k B A x e = refl
-other-group k B B x e = absurd (true≢false e)
-other-group k B C x e = refl
-other-group k B D x e = refl
-other-group k C A x e = refl
-other-group k C B x e = refl
-other-group k C C x e = absurd (true≢false e)
-other-group k C D x e = refl
-other-group k D A x e = refl
-other-group k D B x e = refl
-other-group k D C x e = refl
-other-group k D D x e = absurd (true≢false e)
+other-group k g h x e = replaced k x g h ∙ rw e
 
 read-interrupt : (k : Keys) (g : KeyGroup) → debouncedRead k g .interrupt ≡ 0
-read-interrupt k A = refl
-read-interrupt k B = refl
-read-interrupt k C = refl
-read-interrupt k D = refl
+read-interrupt k = each _ refl refl refl refl
 
 read-others : (k : Keys) (g h : KeyGroup) → eqb (placeOf g) (placeOf h) ≡ false → groupOf (debouncedRead k g) h ≡ groupOf k h
-read-others k g A e = other-group (withInterrupt k 0) g A _ e
-read-others k g B e = other-group (withInterrupt k 0) g B _ e
-read-others k g C e = other-group (withInterrupt k 0) g C _ e
-read-others k g D e = other-group (withInterrupt k 0) g D _ e
+read-others k g h e = other-group (withInterrupt k 0) g h _ e ∙ each (λ h. groupOf (withInterrupt k 0) h ≡ groupOf k h) refl refl refl refl h
 
 pub key-by-key : KeyByKey
 key-by-key =

@@ -2,21 +2,15 @@
 -- Assumes nothing.
 use Rattle.ground.proofs.Names.{ℕ, true, _||_, _≡_, refl, if-small}
 use Rattle.words.specs.declared.KeyGroup.{KeyGroup}
-use Rattle.words.specs.declared.KeyGroup.the-variants.{A, B, C, D}
 use Rattle.keys.specs.Keys.{maskWritten, debouncedRead, closedOf, raises, scannedKeys, soundKeys}
 use Rattle.keys.specs.declared.Keys.{Keys}
+use Rattle.keys.proofs.Keyed.{each}
 
 pub masked-sound : (k : Keys) (g : KeyGroup) (v : ℕ) → soundKeys k ≡ true → soundKeys (maskWritten k g v) ≡ true
-masked-sound k A v e = e
-masked-sound k B v e = e
-masked-sound k C v e = e
-masked-sound k D v e = e
+masked-sound k g v e = each (λ g. soundKeys (maskWritten k g v) ≡ true) e e e e g
 
 pub read-sound : (k : Keys) (g : KeyGroup) → soundKeys (debouncedRead k g) ≡ true
-read-sound k A = refl
-read-sound k B = refl
-read-sound k C = refl
-read-sound k D = refl
+read-sound k = each _ refl refl refl refl
 
 pub scanned-sound : (k : Keys) (ports a b c d : ℕ) → soundKeys k ≡ true → soundKeys (scannedKeys k ports a b c d) ≡ true
 scanned-sound k ports a b c d e =

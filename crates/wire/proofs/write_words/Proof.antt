@@ -1,8 +1,7 @@
 -- `wire::write_words` meets its contract. The invariant: i words are written, and the rest is as it was. Assumes nothing.
-use Rattle.ground.proofs.Names.{_-_, arith, _∙_, drop, Filled, filled-start, filled-more, filled-all}
+use Rattle.ground.proofs.Names.{_-_, arith, drop, drop-drop, Filled, filled-start, filled-more, filled-all}
 use Rattle.wire.specs.Bits.{unpack, wordAt}
 use Rattle.wire.specs.Wire.{words}
-use Rattle.wire.proofs.BitLaws.{word-drop}
 use Rattle.wire.proofs.write_words.Tie as tie
 
 abbrev Inv-loop : tie.InvT-loop
@@ -12,10 +11,8 @@ abbrev μ-loop : tie.MeasureT-loop
 μ-loop bytes bit n next₀ i₀ next i = n - i
 
 loop-again : tie.Need-loop-again Inv-loop μ-loop
-loop-again c =
-    let a = c .before .before .before .before .before .args in
-    let l = c .before .before .loop in
-    filled-more _ (l .inv) (omega arith) (omega arith) (c .word-from .ensures ∙ word-drop (a .bit) (a .n - 1 - l .i) (unpack (a .bytes .now)))
+unfolding wordAt
+loop-again c = filled-more _ (c .before .before .loop .inv) (omega arith) (omega arith) (rw drop-drop (c .word-from .ensures))
 
 returns : tie.Need-returns Inv-loop μ-loop
 unfolding words

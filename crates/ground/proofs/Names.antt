@@ -6,8 +6,8 @@ pub use mathlib.Core.Bool.{Bool, Bool·beq, _&&_, _||_, and-assoc, false, not, o
 pub use mathlib.Core.Option.{Option, none}
 pub use mathlib.Core.Logic.{_≢_, ⊎-elim}
 pub use Prim.Native.Nat.{_%_, _*_, _+_, _-_, _/_, _<_, _^_, _≤_, max, min, suc, zero, ℕ}
-pub use native.Mathlib.Nat.{add-mul, add-suc, add-zero, div-add-mod', div-div-eq-div-mul, div-eq-of-lt, div-le-self, div-lt-iff-lt-mul, div-mul-le-self, div-one, le-div-iff-mul-le, le-of-suc-le-suc, le-refl, mod-eq-of-lt, mod-lt, mod-one, mul-add-div-right, mul-add-mod-self-right, mul-comm, mul-div-cancel, mul-le-mul, mul-le-mul-right, mul-mod-left, mul-suc, mul-zero, not-suc-le-zero, pow-suc, sub-zero, suc-add, suc-mul, zero-add, zero-div, zero-lt-suc}
-pub use native.Mathlib.Numerals.{add-one, add-three, add-two, towards-suc}
+pub use native.Mathlib.Nat.{add-mul, add-suc, add-zero, div-add-mod', div-div-eq-div-mul, div-eq-of-lt, div-le-self, div-lt-iff-lt-mul, div-mul-le-self, div-one, le-div-iff-mul-le, le-of-suc-le-suc, le-refl, mod-eq-of-lt, mod-lt, mod-one, mul-add-div-right, mul-add-mod-self-right, mul-comm, mul-div-cancel, mul-le-mul, mul-le-mul-right, mul-mod-left, mul-suc, mul-zero, not-suc-le-zero, pow-suc, sub-zero, suc-add, suc-mul, zero-add, zero-div}
+pub use native.Mathlib.Numerals.{add-one, towards-suc}
 pub use native.Mathlib.Decide.{decLt, ℕ-discrete}
 pub use native.Mathlib.Omega.{arith}
 pub use lib.Dec.{T as Holds, eqb, eqb→eq, leb, lit<, ltb}

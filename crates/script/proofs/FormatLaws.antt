@@ -1,7 +1,7 @@
 -- The records of a script, one after another.
 -- Assumes nothing.
 use Rattle.ground.proofs.Names.{ℕ, zero, suc, _+_, _-_, _≤_, _<_, arith, Bool, true, false, _&&_, true≢false, List, [], _∷_, _≡_, refl, sym, ap, _∙_, eqb, leb, length, drop, leb-true, eqb-true, ne-eqb, if, and-left, and-right}
-use Rattle.script.specs.Format.{byte, kindOf, bodyLength, sizeOf, lengthFits, wellFormed, callOf, Item, itemAt, itemsAfter, items}
+use Rattle.printed.specs.Format.{byte, kindOf, bodyLength, sizeOf, lengthFits, wellFormed, callOf, Item, itemAt, itemsAfter, items}
 
 -- bytes that are passed over
 items-drop : (k : ℕ) (s : List ℕ) → itemsAfter k s ≡ items (drop k s)

@@ -3,5 +3,3 @@ pub mod FormatLaws
 pub mod RunLaws
 pub mod LoopLaws
 pub mod StartLaws
-pub mod Limited
-pub mod Bench

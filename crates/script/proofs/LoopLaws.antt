@@ -6,9 +6,9 @@ use Rattle.calls.specs.Outcome.{after}
 use Rattle.row.specs.Row.{fresh, records}
 use Rattle.row.specs.declared.Row.{Row}
 use Rattle.device.specs.PowerUp.{freshChain}
-use Rattle.script.specs.Lines.{refusalLine}
-use Rattle.script.specs.Format.{kindOf, bodyLength, sizeOf, bodyOf, lengthFits, wellFormed, callOf, itemsAfter, items}
-use Rattle.script.specs.Script.{callLine, runLines}
+use Rattle.printed.specs.Lines.{refusalLine}
+use Rattle.printed.specs.Format.{kindOf, bodyLength, sizeOf, bodyOf, lengthFits, wellFormed, callOf, itemsAfter, items}
+use Rattle.printed.specs.Script.{callLine, runLines}
 use Rattle.script.specs.Progress.{lineOn, Written, Obeyed}
 use Rattle.script.specs.declared.Progress.{Progress}
 use Rattle.script.proofs.RoomLaws.{written-length, Left, all-written, part-written}

@@ -1,7 +1,7 @@
 -- Bytes written into room, one text after another.
 -- Assumes nothing.
 use Rattle.ground.proofs.Names.{ℕ, suc, _+_, _*_, _≤_, _<_, zero-add, add-zero, add-suc, suc-add, add-one, arith, List, [], _∷_, _++_, _≡_, refl, _∙_, length, set, drop, getD, length-append, drop-of-length-le, sets, length-sets, sets-eq, drop-cons}
-use Rattle.script.specs.Lines.{each, hexByte, answerLine}
+use Rattle.printed.specs.Lines.{each, hexByte, answerLine}
 use Rattle.script.specs.Progress.{Written}
 
 -- a text in two parts is its first part, and then its second after it

@@ -13,8 +13,8 @@ use Rattle.row.specs.Row.{fresh, records, numberOn, replyOn, doneOn, shownOn}
 use Rattle.row.specs.declared.Row.{Row}
 use Rattle.row.specs.declared.Done.{Done}
 use Rattle.row.specs.declared.Shown.{Shown}
-use Rattle.script.specs.Lines.{each, hexByte, pinText, answerLine, markLetter, showLine, refusalLine, lineFor}
-use Rattle.script.specs.Script.{namedMark}
+use Rattle.printed.specs.Lines.{each, hexByte, pinText, answerLine, markLetter, showLine, refusalLine, lineFor}
+use Rattle.printed.specs.Script.{namedMark}
 use Rattle.script.specs.Progress.{Written, Given, Obeyed}
 use Rattle.script.specs.declared.Progress.{Progress}
 use Rattle.script.proofs.RoomLaws.{length-each}

@@ -2,12 +2,12 @@
 -- Assumes nothing.
 use Rattle.ground.proofs.Names.{ℕ, _+_, _*_, _/_, _≤_, _<_, arith, Bool, true, false, _&&_, List, [], _∷_, _++_, _≡_, refl, ltb, length, drop, eq-eqb, ne-eqb, lt-ltb, le-ltb, ltb-false, if}
 use Rattle.device.specs.PowerUp.{freshChain}
-use Rattle.script.specs.Lines.{digit, chainLine, refusalLine}
-use Rattle.script.specs.Format.{byte, kindOf, bodyLength, sizeOf, wellFormed, itemsAfter, items}
-use Rattle.script.specs.Script.{runLines, assumedChain, itemsPrinted, longest, printed}
-use Rattle.script.specs.Run.{roomFor, ranOf, outAfter}
+use Rattle.printed.specs.Lines.{digit, chainLine, refusalLine}
+use Rattle.printed.specs.Format.{byte, kindOf, bodyLength, sizeOf, wellFormed, itemsAfter, items}
+use Rattle.printed.specs.Script.{runLines, assumedChain, itemsPrinted, longest, printed}
+use Rattle.printed.specs.Run.{roomFor, ranOf, outAfter}
 use Rattle.script.specs.Progress.{Written, Started}
-use Rattle.script.specs.declared.Ran.{Ran}
+use Rattle.printed.specs.declared.Ran.{Ran}
 use Rattle.script.specs.declared.Start.{Start}
 use Rattle.script.proofs.RoomLaws.{written-length, whole-written}
 use Rattle.script.proofs.FormatLaws.{items-first, size-zero, size-says, fits}

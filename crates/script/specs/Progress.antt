@@ -11,9 +11,9 @@ use Rattle.calls.specs.Calls.{Call}
 use Rattle.row.specs.Row.{records, numberOn, replyOn, doneOn}
 use Rattle.row.specs.declared.Row.{Row}
 use Rattle.row.specs.declared.Done.{Done}
-use Rattle.script.specs.Lines.{refusalLine, lineFor}
-use Rattle.script.specs.Format.{items}
-use Rattle.script.specs.Script.{namedMark, chainIn, othersIn}
+use Rattle.printed.specs.Lines.{refusalLine, lineFor}
+use Rattle.printed.specs.Format.{items}
+use Rattle.printed.specs.Script.{namedMark, chainIn, othersIn}
 use Rattle.script.specs.declared.Progress.{Progress}
 use Rattle.script.specs.declared.Start.{Start}
 

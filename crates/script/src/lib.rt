@@ -8,12 +8,10 @@ ghost use mathlib.Core.Bool.{true};
 ghost use mathlib.Core.List.{_++_};
 ghost use mathlib.Core.Path.{_≡_};
 ghost use lib.ListN.{length, drop};
-ghost use Rattle.script.specs.Format.{testTable, callOf, lengthFits, items};
+ghost use Rattle.printed.specs.Format.{testTable, callOf, lengthFits, items};
 ghost use Rattle.device.specs.PowerUp.{freshChain};
-ghost use Rattle.script.specs.Script.{runLines, itemsPrinted, longest, printed};
-ghost use Rattle.script.specs.Run.{roomFor, ranOf, outAfter};
-ghost use Rattle.script.specs.Limits.{Limits};
-ghost use Rattle.script.specs.Examples.{Examples};
+ghost use Rattle.printed.specs.Script.{runLines, itemsPrinted, longest, printed};
+ghost use Rattle.printed.specs.Run.{roomFor, ranOf, outAfter};
 ghost use Rattle.script.specs.Progress.{Written, Given, Obeyed, Started};
 use format::byte;
 use format::record_size;
@@ -23,14 +21,9 @@ use lines::answer_line;
 use lines::chain_line;
 use lines::refusal_line;
 use lines::show_line;
+use printed::Ran;
 use row::Done;
 use row::Row;
-
-// What running a script leaves beside the room: its number, and how many bytes were printed.
-pub struct Ran {
-    pub number: u8,
-    pub length: usize,
-}
 
 // What a record leaves: the row, and the place after its line.
 struct Progress {
@@ -240,14 +233,3 @@ pub fn print_all(script: &[u8], out: &mut [u8; 262160]) -> usize
     let ran = run(script, out);
     ran.length
 }
-
-// A theorem: what a script's length and a run's room decide.
-pub fn limits()
-    ensures { λ _. ⌜ Limits ⌝ }
-{}
-
-// A theorem: document 01's script prints its four lines, one of every other kind its own, and the first line is as it says in each case; a show's line
-// ends with the answer mark, and without a chain record the chain is 4.
-pub fn examples()
-    ensures { λ _. ⌜ Examples ⌝ }
-{}

@@ -2,7 +2,7 @@
 ghost use Prim.Native.Nat.{_+_, _*_, _<_, _≤_};
 ghost use mathlib.Core.Path.{_≡_};
 ghost use lib.ListN.{length};
-ghost use Rattle.script.specs.Lines.{digit as digitOf, chainLine, refusalLine, hexDigit, hexByte, pinText, each, answerLine, letter as letterOf, markLetter, showLine};
+ghost use Rattle.printed.specs.Lines.{digit as digitOf, chainLine, refusalLine, hexDigit, hexByte, pinText, each, answerLine, letter as letterOf, markLetter, showLine};
 ghost use Rattle.script.specs.Progress.{Written};
 
 // Some bytes as they are.

@@ -3,7 +3,7 @@ use Rattle.ground.proofs.Names.{_≤_, arith, sym, ap, _∙_, length-take-le, l
 use Rattle.refusals.specs.Refusals.{bytesFor}
 use Rattle.calls.specs.Calls.{access}
 use Rattle.row.specs.declared.Done.{Done}
-use Rattle.script.specs.Format.{word, answerRoom}
+use Rattle.printed.specs.Format.{word, answerRoom}
 use Rattle.script.proofs.RunLaws.{to-end, access-fits, answered, refused}
 use Rattle.script.proofs.accessed.Tie as tie
 

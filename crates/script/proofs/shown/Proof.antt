@@ -1,7 +1,7 @@
 -- `script::shown` meets its contract. Assumes nothing.
 use Rattle.ground.proofs.Names.{arith, needs}
 use Rattle.calls.specs.Calls.{segments}
-use Rattle.script.specs.Format.{byte, testTable}
+use Rattle.printed.specs.Format.{byte, testTable}
 use Rattle.script.proofs.RunLaws.{show-served, show-refused}
 use Rattle.script.proofs.shown.Tie as tie
 

@@ -1,6 +1,6 @@
 -- `script::lines::answer_line` meets its contract. Assumes nothing.
 use Rattle.ground.proofs.Names.{arith, refl, needs}
-use Rattle.script.specs.Lines.{hexByte}
+use Rattle.printed.specs.Lines.{hexByte}
 use Rattle.script.proofs.RoomLaws.{written-length, both-written, length-each, answer-none, answer-some}
 use Rattle.script.proofs.lines.answer_line.Tie as tie
 

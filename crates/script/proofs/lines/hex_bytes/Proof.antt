@@ -1,6 +1,6 @@
 -- `script::lines::hex_bytes` meets its contract. Assumes nothing.
 use Rattle.ground.proofs.Names.{_-_, towards-suc, arith, refl, length, length-set}
-use Rattle.script.specs.Lines.{hexByte}
+use Rattle.printed.specs.Lines.{hexByte}
 use Rattle.script.proofs.RoomLaws.{Texts, texts-start, texts-more, texts-all}
 use Rattle.script.proofs.lines.hex_bytes.Tie as tie
 

@@ -1,6 +1,6 @@
 -- `script::lines::letters` meets its contract. Assumes nothing.
 use Rattle.ground.proofs.Names.{_-_, arith, refl, needs}
-use Rattle.script.specs.Lines.{pinText}
+use Rattle.printed.specs.Lines.{pinText}
 use Rattle.script.proofs.RoomLaws.{Texts, texts-start, texts-more, texts-all}
 use Rattle.script.proofs.lines.letters.Tie as tie
 

@@ -1,6 +1,6 @@
 -- `script::lines::show_line` meets its contract. Assumes nothing.
 use Rattle.ground.proofs.Names.{arith, _≡_, refl, length, needs}
-use Rattle.script.specs.Lines.{pinText}
+use Rattle.printed.specs.Lines.{pinText}
 use Rattle.script.proofs.RoomLaws.{written-length, both-written, length-each}
 use Rattle.script.proofs.lines.show_line.Tie as tie
 

@@ -6,8 +6,8 @@ use mathlib.Core.List.{List, [], _∷_, _++_, map}
 use mathlib.Core.Path.{_≡_}
 use lib.ListN.{length, replicate}
 use Rattle.ground.specs.Lists.{Agree}
-use Rattle.script.specs.Lines.{each, pinText, answerLine}
-use Rattle.script.specs.Script.{printed}
+use Rattle.printed.specs.Lines.{each, pinText, answerLine}
+use Rattle.printed.specs.Script.{printed}
 
 -- a record of a kind, with a short body
 abbrev pub entry : ℕ → List ℕ → List ℕ
@@ -116,6 +116,14 @@ markRows =
     ∷ (
       chainRecord 1 ++ accessRecord 0x84 0x00 ++ entry 6 (1 ∷ 0 ∷ []),
       (0x63 ∷ 0x68 ∷ 0x61 ∷ 0x69 ∷ 0x6E ∷ 0x20 ∷ 0x31 ∷ 0x0A ∷ []) ++ (0x41 ∷ 0x20 ∷ 0x30 ∷ 0x30 ∷ 0x30 ∷ 0x30 ∷ 0x0A ∷ []) ++ (0x53 ∷ 0x20 ∷ []) ++ replicate 19 0x2D ++ (0x20 ∷ 0x66 ∷ 0x0A ∷ []),
+    )
+    -- each driver its own: `chain 2`, `A 00000000`, `S ------------------- f` for driver 2, which read, and `S ------------------- s` for driver 1
+    ∷ (
+      chainRecord 2 ++ entry 2 (0 ∷ 32 ∷ 0x84 ∷ 0x00 ∷ 0x00 ∷ 0x00 ∷ []) ++ entry 6 (2 ∷ 0 ∷ []) ++ entry 6 (1 ∷ 0 ∷ []),
+      (0x63 ∷ 0x68 ∷ 0x61 ∷ 0x69 ∷ 0x6E ∷ 0x20 ∷ 0x32 ∷ 0x0A ∷ [])
+          ++ (0x41 ∷ 0x20 ∷ []) ++ replicate 8 0x30 ++ (0x0A ∷ [])
+          ++ (0x53 ∷ 0x20 ∷ []) ++ replicate 19 0x2D ++ (0x20 ∷ 0x66 ∷ 0x0A ∷ [])
+          ++ (0x53 ∷ 0x20 ∷ []) ++ replicate 19 0x2D ++ (0x20 ∷ 0x73 ∷ 0x0A ∷ []),
     )
     ∷ []
 

@@ -11,8 +11,8 @@ use Rattle.device.specs.declared.Device.{Device}
 use Rattle.calls.specs.Calls.{Call, access, give, ask, askChain}
 use Rattle.calls.specs.Served.{recordOf}
 use Rattle.calls.specs.Outcome.{number, after, reply}
-use Rattle.script.specs.Lines.{chainLine, refusalLine, lineFor}
-use Rattle.script.specs.Format.{Item, chain, call, malformed, items}
+use Rattle.printed.specs.Lines.{chainLine, refusalLine, lineFor}
+use Rattle.printed.specs.Format.{Item, chain, call, malformed, items}
 
 -- the answer mark of the driver that a call names; an access names none, nor does what the chain is asked
 abbrev pub namedMark : Call → List Device → ℕ

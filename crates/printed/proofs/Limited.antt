@@ -1,11 +1,11 @@
 -- Scripts by their length, and runs by their room.
 -- Assumes nothing.
 use Rattle.ground.proofs.Names.{ℕ, _+_, _*_, _<_, _≤_, List, _≡_, length, lt-ltb, le-ltb}
-use Rattle.script.specs.Lines.{refusalLine}
-use Rattle.script.specs.Format.{items}
-use Rattle.script.specs.Script.{itemsPrinted, printed}
-use Rattle.script.specs.Run.{ranOf, outAfter}
-use Rattle.script.specs.Limits.{Limits}
+use Rattle.printed.specs.Lines.{refusalLine}
+use Rattle.printed.specs.Format.{items}
+use Rattle.printed.specs.Script.{itemsPrinted, printed}
+use Rattle.printed.specs.Run.{ranOf, outAfter}
+use Rattle.printed.specs.Limits.{Limits}
 
 too-long : (s : List ℕ) → 65536 < length s → printed s ≡ refusalLine 9
 unfolding printed

@@ -5,8 +5,8 @@ use mathlib.Core.List.{List, _++_}
 use lib.Dec.{eqb, ltb}
 use lib.ListN.{length, drop}
 use Rattle.ground.specs.Choice.{if}
-use Rattle.script.specs.Script.{longest, printed}
-use Rattle.script.specs.declared.Ran.{Ran}
+use Rattle.printed.specs.Script.{longest, printed}
+use Rattle.printed.specs.declared.Ran.{Ran}
 
 -- room that always suffices, by the script's length: a record prints at most four bytes for each of its own
 abbrev pub roomFor : ℕ → ℕ

@@ -4,10 +4,10 @@ use Prim.Native.Nat.{ℕ, _+_, _*_, _<_, _≤_}
 use mathlib.Core.List.{List}
 use mathlib.Core.Path.{_≡_}
 use lib.ListN.{length}
-use Rattle.script.specs.Lines.{refusalLine}
-use Rattle.script.specs.Format.{items}
-use Rattle.script.specs.Script.{itemsPrinted, printed}
-use Rattle.script.specs.Run.{ranOf, outAfter}
+use Rattle.printed.specs.Lines.{refusalLine}
+use Rattle.printed.specs.Format.{items}
+use Rattle.printed.specs.Script.{itemsPrinted, printed}
+use Rattle.printed.specs.Run.{ranOf, outAfter}
 
 -- by a script's length, and by the room
 pub record Limits : Type 0 where

@@ -6,10 +6,10 @@ use Rattle.wire.specs.Wire.{string, words, wire, answer, shifted}
 use Rattle.device.specs.Taken.{taken}
 use Rattle.calls.specs.CallRefusals.{allSound}
 use Rattle.calls.specs.Outcome.{number, after, reply}
-use Rattle.script.specs.Lines.{each}
-use Rattle.script.specs.Format.{itemsAfter}
-use Rattle.script.specs.Script.{runLines, printed}
-use Rattle.script.specs.Examples.{letterRows, answerRows, rows, lineRows, scanRows, markRows, assumedRows, malformedRows, Printed, Examples}
+use Rattle.printed.specs.Lines.{each}
+use Rattle.printed.specs.Format.{itemsAfter}
+use Rattle.printed.specs.Script.{runLines, printed}
+use Rattle.printed.specs.Examples.{letterRows, answerRows, rows, lineRows, scanRows, markRows, assumedRows, malformedRows, Printed, Examples}
 
 bench-letters : Agree letterRows
 unfolding each

@@ -1,0 +1,6 @@
+pub mod Lines
+pub mod Format
+pub mod Script
+pub mod Run
+pub mod Limits
+pub mod Examples

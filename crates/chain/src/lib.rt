@@ -257,7 +257,7 @@ pub extern "C" fn max6954_look_back(
         return answers::look_back_refused(number, plane, digit, words);
     }
     let at = driver - 1;
-    look_back::look_back(chain[at], plane, digit, words)
+    stopping_word::look_back(chain[at], plane, digit, words)
 }
 
 // The shortest list of accesses that leads to the wanted contents, 32 bytes for each driver, P0 then P1: into the front of the list.

@@ -9,7 +9,7 @@ use Rattle.device.specs.declared.Device.{Device}
 use Rattle.plans.specs.Words.{Sized}
 use Rattle.look_back.specs.LookBack.{byteOf, byteAfter}
 use Rattle.look_back.specs.Stops.{stops, placeBefore, lastPlace, stoppingPlace}
-use Rattle.look_back.specs.Masks.{leftBy, byteBy}
+use Rattle.look_back.specs.ByteBy.{leftBy, byteBy}
 use Rattle.look_back.specs.NoFurther.{NoFurther}
 use Rattle.look_back.proofs.PlaceLaws.{holds-there, holds-not, drop-place}
 use Rattle.look_back.proofs.PlaneLaws.{taken-plane, new-length, new-byte}

@@ -14,7 +14,7 @@ use Rattle.registers.specs.declared.Registers.{Registers}
 use Rattle.device.specs.Taken.{taken}
 use Rattle.device.specs.declared.Device.{Device}
 use Rattle.look_back.specs.Stops.{firstAddress, stops}
-use Rattle.look_back.specs.Masks.{leftBy}
+use Rattle.look_back.specs.ByteBy.{leftBy}
 
 -- a read leaves the planes
 read-planes : (x : Registers) (r : Register) → afterRead x r .planes ≡ x .planes

@@ -1,5 +1,5 @@
 pub mod LookBack
 pub mod Stops
 pub mod NoFurther
-pub mod Masks
+pub mod ByteBy
 pub mod Examples

@@ -5,7 +5,7 @@ use Rattle.calls.specs.Calls.{lookBack}
 use Rattle.chain.proofs.Answers.{lookBackAnswer}
 use Rattle.pass.proofs.look_back_refusal as own
 use Rattle.answers.proofs.look_back_refused as refused
-use Rattle.look_back.proofs.look_back as work
+use Rattle.stopping_word.proofs.look_back as work
 use Rattle.shapes.proofs.Names.{_≡_, refl, [], _∷_, w16, size, held, lent, asks-spec}
 use Rattle.chain.proofs.max6954_look_back as this
 

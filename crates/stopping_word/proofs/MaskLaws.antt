@@ -3,9 +3,9 @@
 use Rattle.ground.proofs.Names.{ℕ, _+_, _*_, _/_, _%_, _<_, arith, Bool, true, false, not, _&&_, _||_, Bool·beq, List, _≡_, refl, sym, ap, ap₂, _∙_, bitAnd, and-block, and-le-r, and-zero-r, eqb, getD, eqb-true, eqb-false, eq-eqb, ne-eqb, bit, all, all-at, high-bit, low-bit, same}
 use Rattle.words.specs.declared.Plane.{Plane}
 use Rattle.words.specs.declared.Plane.the-variants.{P0, P1}
 use Rattle.look_back.specs.Stops.{firstAddress, writesTo, writesByte, clearsPlanes, stops, lastPlace, stoppingPlace}
-use Rattle.look_back.specs.Masks.{maskOf, patternOf, stopsUnder}
+use Rattle.stopping_word.specs.Masks.{maskOf, patternOf, stopsUnder}
 use Rattle.look_back.proofs.PlaceLaws.{place-ext}
 
 -- numbers of two bytes are equal where both bytes are
 two-bytes : (x y a b : ℕ) → y < 256 → b < 256 → eqb (x * 256 + y) (a * 256 + b) ≡ (eqb x a && eqb y b)

@@ -1,6 +1,6 @@
--- `look_back::look_back` meets its contract. Assumes nothing.
+-- `stopping_word::look_back` meets its contract. Assumes nothing.
 use Rattle.ground.proofs.Names.{ltb, ltb-true, and-right}
-use Rattle.look_back.proofs.look_back.Tie as tie
+use Rattle.stopping_word.proofs.look_back.Tie as tie
 
 looked-requires : tie.Need-looked-requires
 looked-requires c κs =
@@ -13,5 +13,5 @@ returns c = rw (c .looked .ensures, c .before .if1 .taken)
 returns-2 : tie.Need-returns-2
 returns-2 c = rw (c .if1 .left)
 
-pub look-back-spec : {M : Type 1} → Rattle.look_back.proofs.look_back.Statement.statement M
+pub look-back-spec : {M : Type 1} → Rattle.stopping_word.proofs.look_back.Statement.statement M
 look-back-spec = tie.close (tie.spec looked-requires returns returns-2)

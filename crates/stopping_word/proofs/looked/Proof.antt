@@ -1,12 +1,12 @@
--- `look_back::looked` meets its contract: the place that the masks find is the stopping place, and it decides the byte. Assumes nothing.
+-- `stopping_word::looked` meets its contract: the place that the masks find is the stopping place, and it decides the byte. Assumes nothing.
 use Rattle.ground.proofs.Names.{_≤_, arith, _≡_, sym, _∙_, length, needs}
 use Rattle.look_back.specs.LookBack.{planeNumbered}
-use Rattle.look_back.specs.Masks.{stopsUnder}
+use Rattle.stopping_word.specs.Masks.{stopsUnder}
 use Rattle.look_back.proofs.PlaceLaws.{place-le}
-use Rattle.look_back.proofs.MaskLaws.{masks-place}
+use Rattle.stopping_word.proofs.MaskLaws.{masks-place}
 use Rattle.look_back.proofs.LookedLaws.{looked-by, byte-at}
-use Rattle.look_back.proofs.Typed.{sized-planes}
-use Rattle.look_back.proofs.looked.Tie as tie
+use Rattle.stopping_word.proofs.Typed.{sized-planes}
+use Rattle.stopping_word.proofs.looked.Tie as tie
 
 mul-left-by : tie.Need-mul-left-by
 mul-left-by c =
@@ -45,7 +45,7 @@ returns-2 c =
     let none : 0 ≡ found .stopping-place .result = omega arith in
     c .held .ensures ∙ looked-by p (a .digit) (s .pre) (a .words .now) (a .device) (sized-planes (a .device) _ (s .good .0)) 0 (none ∙ e)
 
-pub looked-spec : {M : Type 1} → Rattle.look_back.proofs.looked.Statement.statement M
+pub looked-spec : {M : Type 1} → Rattle.stopping_word.proofs.looked.Statement.statement M
 looked-spec =
     tie.close
     (tie.spec (λ c κs. search needs) (λ c κs. search needs) (λ c κs. search needs) (λ c. search needs) mul-left-by shared-slice-read-left-by

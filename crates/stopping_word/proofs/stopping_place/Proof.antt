@@ -1,10 +1,10 @@
--- `look_back::stopping_place` meets its contract. The invariant: no word after the first k stops, so the place is that of these. A turn reads the
+-- `stopping_word::stopping_place` meets its contract. The invariant: no word after the first k stops, so the place is that of these. A turn reads the
 -- last of them, and the one before it where the last doesn't stop: none before the stopping place. Assumes nothing.
 use Rattle.ground.proofs.Names.{_-_, _≤_, arith, _≡_, sym, ap, _∙_, length, take, take-length, needs}
 use Rattle.look_back.specs.Stops.{lastPlace}
-use Rattle.look_back.specs.Masks.{stopsUnder}
+use Rattle.stopping_word.specs.Masks.{stopsUnder}
 use Rattle.look_back.proofs.PlaceLaws.{stops-at, goes-on, no-words}
-use Rattle.look_back.proofs.stopping_place.Tie as tie
+use Rattle.stopping_word.proofs.stopping_place.Tie as tie
 
 abbrev Inv-loop : tie.InvT-loop
 Inv-loop words mask pattern k₀ k =
@@ -68,7 +68,7 @@ returns-5 c =
     let l = c .before .before .loop in
     sym (l .inv .1 ∙ no-words (stopsUnder (a .mask) (a .pattern)) (a .words .now) (l .k) (omega (arith, c .if3 .left)))
 
-pub stopping-place-spec : {M : Type 1} → Rattle.look_back.proofs.stopping_place.Statement.statement M
+pub stopping-place-spec : {M : Type 1} → Rattle.stopping_word.proofs.stopping_place.Statement.statement M
 stopping-place-spec =
     tie.close
     (tie.spec Inv-loop μ-loop loop-holds (λ c. omega arith) (λ c. omega arith) (λ c. omega arith) (λ c κs. search needs) returns (λ c. omega arith)

@@ -1,7 +1,0 @@
--- `look_back::pattern` meets its contract. Assumes nothing.
-use Rattle.ground.proofs.Names.{needs, tests}
-use Rattle.look_back.proofs.pattern.Tie as tie
-
-pub pattern-spec : {M : Type 1} → Rattle.look_back.proofs.pattern.Statement.statement M
-pattern-spec =
-    tie.close (tie.spec (λ c. search needs) (λ c. search needs) (λ c. search needs) (λ c. search needs) (λ c. search tests) (λ c. search tests))

@@ -1,0 +1,2 @@
+mod MaskLaws
+mod Typed

@@ -64,7 +64,7 @@ module _ (ds : List Device) (wanted list : List ℕ) (some : 0 < length ds) (few
   next : (m : ℕ) → m < n → upTo (suc m) ≡ put (upTo m) n m (part m)
   unfolding listTo
   next m h =
-      rw (
+      simp (
         lt-ltb m n h,
         lt-ltb n 17 (omega arith),
         lt-ltb k 33 (omega (arith, chain-most ds wanted)),

@@ -13,7 +13,7 @@ too-long s h = rw (lt-ltb 65536 (length s) h)
 
 not-too-long : (s : List ℕ) → length s ≤ 65536 → printed s ≡ itemsPrinted (items s)
 unfolding printed
-not-too-long s h = rw (le-ltb 65536 (length s) h)
+not-too-long s h = simp (le-ltb 65536 (length s) h)
 
 no-room : (s out : List ℕ) → length s ≤ 65536 → length out < 16 + 4 * length s
     → (ranOf s out ≡ record { number = 5; length = 0 }) × (outAfter s out ≡ out)

@@ -13,4 +13,4 @@ whole n wanted = go (eqb (wanted / 32) n) (eqb (wanted % 32) 0) refl refl
 
 pub wanted-refusal-spec : {M : Type 1} → Rattle.planner.proofs.wanted_refusal.Statement.statement M
 wanted-refusal-spec =
-    tie.close (tie.spec (λ c. search tests) (λ c. rw (whole, c .before .if1 .left, c .if2 .taken)) (λ c. rw (whole, c .before .if1 .left, c .if2 .left)))
+    tie.close (tie.spec (λ c. search tests) (λ c. simp (whole, c .before .if1 .left, c .if2 .taken)) (λ c. simp (whole, c .before .if1 .left, c .if2 .left)))

@@ -16,7 +16,7 @@ loop-holds c = (omega arith, refl)
 returns : tie.Need-returns Inv-loop μ-loop
 returns c =
     let l : length (c .before .before .before .before .before .args .straps .addresses) ≡ 16 = search needs in
-    sym (c .before .before .before .loop .inv .1 ∙ distinct-next _ (c .before .before .before .before .before .args .straps .addresses) _ (c .before .before .loop-test .taken) (omega arith) ∙ rw (sym (c .before .later-none .ensures) ∙ not-true _ (c .if1 .taken)))
+    sym (c .before .before .before .loop .inv .1 ∙ distinct-next _ (c .before .before .before .before .before .args .straps .addresses) _ (c .before .before .loop-test .taken) (omega arith) ∙ simp (sym (c .before .later-none .ensures) ∙ not-true _ (c .if1 .taken)))
 
 loop-again : tie.Need-loop-again Inv-loop μ-loop
 loop-again c =

@@ -171,13 +171,13 @@ pub extern "C" fn max6954_segments(
 ) -> SegmentAnswer
     ensures { λ r. ⌜ outcome (ask driver (segments cathode (now (font14 .entry)) (now (font16 .entry)))) (now (chain .entry)) ≡ record { number = r .number; records = now (chain .entry); back = r .pins } ⌝ }
 {
-    let own = display::segments_refusal(cathode, font14, font16);
+    let own = shown_pins::segments_refusal(cathode, font14, font16);
     let number = lent::call_refusal(chain, driver, own);
     if number != 0 {
         return answers::segments_refused(number, cathode, font14, font16);
     }
     let at = driver - 1;
-    display::segments(chain[at], cathode, font14, font16)
+    shown_pins::segments(chain[at], cathode, font14, font16)
 }
 
 // The brightness of a digit of one driver, and what rules it.

@@ -1,26 +1,26 @@
 -- A pin by its entry of the wiring table is the pin that the rule gives.
 -- Assumes nothing.
-use Rattle.ground.proofs.Names.{ℕ, _+_, _-_, _^_, _<_, Bool, true, false, _||_, List, _≡_, refl, ap, _∙_, eqb, ltb, getD, lt-ltb, ltb-true, if, bit, tabulate, all, all-at, tabulate-ext}
+use Rattle.ground.proofs.Names.{ℕ, _+_, _<_, Bool, true, false, not, _||_, List, _≡_, refl, eqb, ltb, getD, lt-ltb, ltb-true, if, bit, all, all-at}
 use Rattle.device.specs.declared.Device.{Device}
 use Rattle.wiring.specs.Segments.{Segment, none, listOf, Light, nothing, glyph, point, first, second, lightOf, isLight}
-use Rattle.wiring.specs.Wiring.{cathode, notDriven, carries, digitOf, partner, place, ruleAt, wireAt}
+use Rattle.wiring.specs.Wiring.{cathode, notDriven, carries, digitOf, partner, place, ruleAt}
 use Rattle.wiring.specs.Table.{lightEntry, segmentEntry, wireEntry}
-use Rattle.wiring.specs.PackedRows.{packedRow}
 use Rattle.wiring.specs.declared.Display.{Display}
 use Rattle.wiring.specs.declared.Display.the-variants.{Sixteen, Fourteen, SevenPair}
-use Rattle.wiring.specs.declared.PackedRow.{PackedRow}
 use Rattle.wiring.proofs.Wired.{wired}
 use Rattle.glyphs.specs.Glyphs.{litBy}
 use Rattle.glyphs.specs.Masks.{segmentsBy}
 use Rattle.glyphs.proofs.Segments.{segment-by-segment}
 use Rattle.brightness.specs.Dark.{testOn, dark}
 use Rattle.display.specs.Cathode.{displayOf, shownByte, hexMode, fontOf, segmentOn}
-use Rattle.display.specs.Pins.{pinCode, pinOf, pinAt}
+use Rattle.display.specs.Pins.{pinOf, pinAt}
 use Rattle.display.specs.declared.Pin.{Pin}
 use Rattle.display.specs.declared.Pin.the-variants.{NotDriven, Lit, Unlit, NoSegment}
 use Rattle.display.specs.ByTable.{allSegments, litSegments, pinBy, PinByPin}
-use Rattle.display.specs.PackedPins.{pinsBy}
-use Rattle.display.proofs.Packing.{numbered, row-pin}
+
+-- what lights a segment has the number of a bit
+abbrev pub numbered : Light → Bool
+numbered l = not (isLight l) || ltb (lightEntry l) 17
 
 -- a pin's place is one of the list's
 place-lt : (d p : ℕ) → d < 8 → p < 19 → place d p < 17
@@ -86,23 +86,9 @@ module _ (x : Device) (d : ℕ) (font14 font16 : List ℕ)
   abbrev by-table : ℕ → Pin
   by-table p = pinBy (litSegments x d font14 font16) (wireEntry (ruleAt k d p))
 
-  pin-at : (p : ℕ) → p < 19 → if (dark x d) NotDriven (by-table p) ≡ pinAt x d font14 font16 p
+  pub pin-at : (p : ℕ) → p < 19 → if (dark x d) NotDriven (by-table p) ≡ pinAt x d font14 font16 p
   pin-at p hp = rw (lt-ltb d 8 hd, lt-ltb p 19 hp, rule-pin p hp)
-
-  -- the pins of a cathode that is not dark
-  pub pins-lit : {segments : ℕ} {r : Display} {row : PackedRow} → segments < 2 ^ 64 → dark x d ≡ false → r ≡ k → segments ≡ litSegments x d font14 font16
-      → row ≡ packedRow r d
-      → pinsBy (2 ^ 64 - 1 - segments) row ≡ tabulate 19 (λ p. pinCode (pinAt x d font14 font16 p))
-  pins-lit {segments} hs bright e es er =
-      rw (er, e) (tabulate-ext 19 _ _ (λ p hp. row-pin k d p segments hd hp hs ∙ ap pinCode (read p hp ∙ pin-at p hp)))
-    where
-      read : (p : ℕ) → p < 19 → pinBy segments (wireEntry (wireAt k d p)) ≡ if (dark x d) NotDriven (by-table p)
-      read p hp = rw (es, lt-ltb d 8 hd, lt-ltb p 19 hp, bright)
 
 pub pin-by-pin : PinByPin
 pin-by-pin x d font14 font16 p first-byte second-byte words14 words16 hd hp =
     rw (wired .entries (displayOf x d) d p hd hp) (pin-at x d font14 font16 first-byte second-byte words14 words16 hd p hp)
-
--- the pins of a dark cathode
-pub pins-dark : (x : Device) (d : ℕ) (font14 font16 : List ℕ) → dark x d ≡ true → tabulate 19 (λ p. 0) ≡ tabulate 19 (λ p. pinCode (pinAt x d font14 font16 p))
-pins-dark x d font14 font16 e = simp e

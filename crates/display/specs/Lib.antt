@@ -1,5 +1,4 @@
 pub mod Cathode
 pub mod Pins
 pub mod ByTable
-pub mod PackedPins
 pub mod Examples

@@ -200,7 +200,7 @@ impl Row {
     pub fn show(self, driver: usize, cathode: usize, font14: &[u16], font16: &[u16]) -> Shown
         ensures { λ r. ⌜ r ≡ shownOn self driver (segmentsQuestion cathode (now (font14 .entry)) (now (font16 .entry))) ⌝ }
     {
-        let own = display::segments_refusal(cathode, font14, font16);
+        let own = shown_pins::segments_refusal(cathode, font14, font16);
         let number = self.number(driver, own);
         if number != 0 {
             return Shown {
@@ -210,7 +210,7 @@ impl Row {
             };
         }
         let asked = self.named(driver);
-        let answer = display::segments(asked, cathode, font14, font16);
+        let answer = shown_pins::segments(asked, cathode, font14, font16);
         let pins = answer.pins;
         Shown {
             number: 0,

@@ -5,9 +5,9 @@ use Rattle.display.specs.Pins.{pinCode, segmentsOf}
 use Rattle.display.specs.declared.Pin.the-variants.{NotDriven}
 use Rattle.calls.specs.Calls.{segments}
 use Rattle.chain.proofs.Answers.{segmentAnswer}
-use Rattle.display.proofs.segments_refusal as own
+use Rattle.shown_pins.proofs.segments_refusal as own
 use Rattle.answers.proofs.segments_refused as refused
-use Rattle.display.proofs.segments as work
+use Rattle.shown_pins.proofs.segments as work
 use Rattle.shapes.proofs.Names.{_≡_, refl, [], _∷_, w16, size, held, lent, asks-spec}
 use Rattle.chain.proofs.max6954_segments as this
 

@@ -8,10 +8,11 @@ use Rattle.wiring.specs.PackedRows.{byteOf, packed, litNumber, entryBit, packed
 use Rattle.wiring.specs.declared.Display.{Display}
 use Rattle.wiring.specs.declared.Display.the-variants.{Sixteen, Fourteen, SevenPair}
 use Rattle.wiring.proofs.Bytes.{byte-packed, byte-and, byte-or, byte-add, byte-shifted, byte-repeated}
 use Rattle.display.specs.Pins.{pinCode}
 use Rattle.display.specs.declared.Pin.the-variants.{Lit, Unlit}
 use Rattle.display.specs.ByTable.{pinBy}
-use Rattle.display.specs.PackedPins.{ones, sevenBits, carriedBy, nonzeroBytes, eightPins, wordAt}
+use Rattle.shown_pins.specs.PackedPins.{ones, sevenBits, carriedBy, nonzeroBytes, eightPins, wordAt}
+use Rattle.display.proofs.Wires.{numbered}
 
 -- a byte that is not 0, marked in its highest bit
 marked : (v : ℕ) → v < 256 → bitOr (bitAnd v 127 + 127) v / 128 ≡ if (eqb v 0) 0 1
@@ -91,10 +92,6 @@ picked-bit : (u n : ℕ) → n < 17 → eqb (picked u n) 0 ≡ not (bit n u)
 picked-bit u n h =
     rw (lt-ltb n 17 h, one-byte u (2 ^ (n % 8)) (n / 8) (omega arith))
     (masked (byteOf u (n / 8)) (n % 8) (omega arith) (omega arith) ∙ ap not (byte-bit u n))
-
--- what lights a segment has the number of a bit
-abbrev pub numbered : Light → Bool
-numbered l = not (isLight l) || ltb (lightEntry l) 17
 
 -- a pin that carries such a segment, or none
 abbrev numbered-wire : Wire → Bool

@@ -1,7 +1,7 @@
--- `display::segments` meets its contract. Assumes nothing.
+-- `shown_pins::segments` meets its contract. Assumes nothing.
 use Rattle.ground.proofs.Names.{tabulate, ne-eqb, sym, _∙_, needs}
 use Rattle.refusals.proofs.RefusalLaws.{segments-served}
-use Rattle.display.proofs.segments.Tie as tie
+use Rattle.shown_pins.proofs.segments.Tie as tie
 
 pins-shown-requires : tie.Need-pins-shown-requires
 pins-shown-requires c κs =
@@ -15,5 +15,5 @@ returns-2 : tie.Need-returns-2
 unfolding tabulate
 returns-2 c = rw (← c .before .segments-refusal .ensures, ne-eqb _ _ (c .if1 .left))
 
-pub segments-spec : {M : Type 1} → Rattle.display.proofs.segments.Statement.statement M
+pub segments-spec : {M : Type 1} → Rattle.shown_pins.proofs.segments.Statement.statement M
 segments-spec = tie.close (tie.spec (λ c κs. search needs) pins-shown-requires returns returns-2)

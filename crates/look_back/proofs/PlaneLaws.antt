@@ -172,4 +172,5 @@ new-byte p w l i h k = go (bit 15 w) refl (eqb (w / 256 % 128) 4) refl
         let n : (eqb 4 (firstAddress p + i) || eqb 4 (0x60 + i)) ≡ false = row-right p 4 i (omega arith) k ∙ none in
         rw (e, q, n) (elim (bit 5 w) as (λ b. getD (if b (replicate 16 0) l) i 0 ≡ if b 0 (getD l i 0)) [ true ↦ getD-replicate 16 i 0 0 k | false ↦ refl ])
     go false e false g =
-        rw (e, g, row-right p (w / 256 % 128) i (omega arith) k, or-false) (getD-touched (inRow p (w / 256 % 128)) l (w / 256 % 128 % 16) (w % 256) i (rw h k))
+        let s : stops p i w ≡ (inRow p (w / 256 % 128) && eqb (w / 256 % 128 % 16) i) = simp (e, g, row-right p (w / 256 % 128) i (omega arith) k, or-false) in
+        rw (s, e, g) (getD-touched (inRow p (w / 256 % 128)) l (w / 256 % 128 % 16) (w % 256) i (rw h k))

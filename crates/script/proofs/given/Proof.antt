@@ -1,9 +1,15 @@
 -- `script::given` meets its contract. Assumes nothing.
-use Rattle.ground.proofs.Names.{arith, refl, eq-eqb, ne-eqb, needs}
+use Rattle.ground.proofs.Names.{ℕ, arith, true, List, [], _≡_, refl, eqb, if, eq-eqb, ne-eqb, needs}
+use Rattle.printed.specs.Lines.{refusalLine}
+use Rattle.script.specs.Progress.{Written}
 use Rattle.script.proofs.given.Tie as tie
 
+-- a served call prints nothing
+no-line : (n at : ℕ) (out : List ℕ) → eqb n 0 ≡ true → Written (if (eqb n 0) [] (refusalLine n)) at out out at
+no-line n at out e = rw e (record { bytes = refl; place = omega arith })
+
 returns : tie.Need-returns
-returns c = record { row-after = refl; line = rw (eq-eqb _ 0 (c .if1 .taken)) (record { bytes = refl; place = omega arith }); short = omega arith }
+returns c = let s = c .before .before .before .args in record { row-after = refl; line = no-line (s .done .number) (s .at) (s .out .now) (eq-eqb _ 0 (c .if1 .taken)); short = omega arith }
 
 returns-2 : tie.Need-returns-2
 returns-2 c = record { row-after = refl; line = rw (ne-eqb _ 0 (c .before .before .before .before .if1 .left)) (c .before .before .refusal-line .ensures); short = omega (arith, c .before .before .refusal-line .ensures .place) }

@@ -36,7 +36,7 @@
 
 /* The bytes of a record as the library has it. A program can test at its start that its compiler lays it out alike: sizeof(max6954_device) is this.
    The last three are padding, which no call reads and a served one may change. */
-#define MAX6954_DEVICE_SIZE 84
+#define MAX6954_DEVICE_SIZE 124
 
 /* The wanted bytes of one driver, and the most accesses that a plan has: 13 isn't given where the room is so many words for each driver. */
 #define MAX6954_WANTED_SIZE 32
@@ -79,6 +79,8 @@ static inline const char *max6954_refusal_text(uint8_t number)
         return "wanted planes not 32 bytes a driver";
     case 13:
         return "room for the list too small for the shortest";
+    case 14:
+        return "a family unknown in some record, or a call that the driver, or for the planner, its check and the two-wire bus any driver, lacks";
     default:
         return "not a number that is given";
     }
@@ -134,6 +136,33 @@ typedef struct {
     uint32_t blink;    /* master clocks modulo 4,000,000 */
 } max6954_registers;
 
+/* The configuration bits of a MAX6957. */
+typedef struct {
+    uint8_t m;    /* D7: transition detection */
+    uint8_t i;    /* D6: each port's own current */
+    uint8_t s;    /* D0: normal operation, 0 is shutdown */
+} max6957_config;
+
+/* Its transition detection on P24 to P30. */
+typedef struct {
+    uint8_t mask;
+    uint8_t snapshot;
+    uint8_t detecting;
+    uint8_t interrupt;
+} max6957_transition;
+
+/* The registers of a MAX6957, bit k for port k+4. */
+typedef struct {
+    uint32_t data;
+    uint32_t pins;
+    uint8_t pairs[7];
+    uint8_t currents[14];
+    uint8_t global;
+    uint8_t test;
+    max6957_config config;
+    max6957_transition transition;
+} max6957_registers;
+
 /* A driver's record. */
 typedef struct {
     max6954_registers registers;
@@ -141,6 +170,8 @@ typedef struct {
     uint8_t fitted;         /* bit d: cathode d has a 7-segment pair where its digit type is 0, else 16 segments; no call changes it */
     uint8_t answer_mark;    /* 1 when the word that the driver last took was a read, so that the shift word is its answer, else 0 */
     uint8_t command;        /* the command address of a two-wire part, 7 bits: where its next data byte is; accesses leave it */
+    uint8_t family;         /* 0: a MAX6954 or MAX6955, 1: a MAX6957; no call changes it. The registers of the other family count for nothing */
+    max6957_registers ports;
 } max6954_device;
 
 /* A pin of a segment answer. */

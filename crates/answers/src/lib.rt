@@ -3,6 +3,9 @@ ghost use mathlib.Core.Path.{_≡_};
 ghost use mathlib.Core.List.{[]};
 ghost use Rattle.ground.specs.Lists.{tabulate};
 ghost use Rattle.device.specs.Steps.{shownPlane};
+ghost use Rattle.device.specs.Families.{interruptOf};
+ghost use Rattle.port_registers.specs.Ports.{portStates};
+ghost use lib.ListN.{replicate};
 ghost use Rattle.display.specs.Pins.{pinCode};
 ghost use Rattle.display.specs.declared.Pin.the-variants.{NotDriven};
 ghost use Rattle.calls.specs.Served.{planeCode};
@@ -31,6 +34,34 @@ pub struct InterruptAnswer {
 pub struct MarkAnswer {
     pub number: u8,
     pub mark: u8,
+}
+
+// An answer: its number, and what P4 to P31 show, P4 first: 0 undriven, 1 low, 2 high, 2 + s an LED current of s sixteenths.
+#[repr(C)]
+pub struct PortAnswer {
+    pub number: u8,
+    pub ports: [u8; 28],
+}
+
+// No port is driven.
+pub fn ports_refused(number: u8) -> PortAnswer
+    ensures { λ r. ⌜ r ≡ record { number = number; ports = replicate 28 0 } ⌝ }
+{
+    PortAnswer {
+        number: number,
+        ports: [0; 28],
+    }
+}
+
+// What the ports of a MAX6957 show.
+pub fn ports(d: Device) -> PortAnswer
+    ensures { λ r. ⌜ r ≡ record { number = 0; ports = portStates (d .ports) } ⌝ }
+{
+    let registers = d.ports;
+    PortAnswer {
+        number: 0,
+        ports: registers.states(),
+    }
 }
 
 // No pin is driven.
@@ -93,12 +124,11 @@ pub fn interrupt_refused(number: u8) -> InterruptAnswer
 
 // Whether a driver's interrupt is raised.
 pub fn interrupt(d: Device) -> InterruptAnswer
-    ensures { λ r. ⌜ r ≡ record { number = 0; raised = d .registers .keys .interrupt } ⌝ }
+    ensures { λ r. ⌜ r ≡ record { number = 0; raised = interruptOf d } ⌝ }
 {
-    let keys = d.registers.keys;
     InterruptAnswer {
         number: 0,
-        raised: keys.interrupt,
+        raised: d.interrupt(),
     }
 }
 

@@ -1,9 +1,10 @@
 -- What a call's number says, and what the call does by it.
 -- Assumes nothing.
 use Rattle.ground.proofs.Names.{ℕ, _<_, arith, Bool, true, false, _&&_, List, [], _∷_, _≡_, refl, eqb, ltb, length, take, eqb-true, ltb-true, if, and-right, passed}
+use Rattle.device.specs.Families.{families}
 use Rattle.device.specs.declared.Device.{Device}
-use Rattle.refusals.specs.Refusals.{chainRefusal, soundRefusal, clashRefusal, addressRefusal}
-use Rattle.calls.specs.CallRefusals.{allSound}
+use Rattle.refusals.specs.Refusals.{chainRefusal, soundRefusal, clashRefusal, addressRefusal, familyRefusal}
+use Rattle.calls.specs.CallRefusals.{familiesBelow, allSound}
 use Rattle.calls.proofs.Accepted.{each-zero}
 use Rattle.bus.specs.declared.Bus.{Bus}
 use Rattle.bus.specs.Straps.{distinct, sevenBits}
@@ -17,17 +18,22 @@ use Rattle.bus.proofs.Straps.{Served}
 use Rattle.bus.proofs.States.{Named, state-named, state-bus, bus-sound, next-named}
 
 -- what the number 0 says of a start, a byte, a stop
-pub wire-says : (n : ℕ) (sound : Bool) (σ : List ℕ) → wireRefusal n sound σ ≡ 0 → (sound ≡ true) × Served n σ
-wire-says n sound σ z =
-    let each = each-zero (chainRefusal n ∷ soundRefusal sound ∷ clashRefusal (distinct (take n σ)) ∷ addressRefusal (sevenBits (take n σ)) ∷ []) z in
+pub wire-says : (n : ℕ) (fs : List ℕ) (sound : Bool) (σ : List ℕ) → wireRefusal n fs sound σ ≡ 0 → (sound ≡ true) × Served n σ
+wire-says n fs sound σ z =
+    let each = each-zero (chainRefusal n ∷ soundRefusal sound ∷ clashRefusal (distinct (take n σ)) ∷ addressRefusal (sevenBits (take n σ)) ∷ familyRefusal (familiesBelow 1 fs) ∷ []) z in
     let small : n < 17 = ltb-true n 17 (and-right (ltb 0 n) (ltb n 17) (passed (ltb 0 n && ltb n 17) 0 0 (each 0) .0)) in (
       passed sound 0 6 (each 1) .0,
       record { few = omega arith; apart = passed (distinct (take n σ)) 0 9 (each 2) .0; seven = passed (sevenBits (take n σ)) 0 10 (each 3) .0 },
     )
 
 -- of an accepted one
-pub wire-served : (n : ℕ) (σ : List ℕ) → eqb (wireRefusal n true σ) 0 ≡ true → Served n σ
-wire-served n σ a = wire-says n true σ (eqb-true _ 0 a) .1
+pub wire-served : (n : ℕ) (fs σ : List ℕ) → eqb (wireRefusal n fs true σ) 0 ≡ true → Served n σ
+wire-served n fs σ a = wire-says n fs true σ (eqb-true _ 0 a) .1
+
+pub wire-old : (n : ℕ) (fs σ : List ℕ) → eqb (wireRefusal n fs true σ) 0 ≡ true → familiesBelow 1 fs ≡ true
+wire-old n fs σ a =
+    let each = each-zero (chainRefusal n ∷ soundRefusal true ∷ clashRefusal (distinct (take n σ)) ∷ addressRefusal (sevenBits (take n σ)) ∷ familyRefusal (familiesBelow 1 fs) ∷ []) (eqb-true _ 0 a) in
+    passed (familiesBelow 1 fs) 0 13 (each 4) .0
 
 -- what is given is sound
 sound-for : (q : BusCall) (b : Bus) (ds : List Device) → allSound ds ≡ true → soundBus (length ds) b ≡ true → soundFor q b ds ≡ true
@@ -38,34 +44,35 @@ sound-for stop b ds s t = rw (s, t)
 sound-for (give j x) b ds s t = s
 sound-for (ask j x) b ds s t = s
 
--- n sound records and a sound bus state
-pub record Sound (n : ℕ) (b : Bus) (ds : List Device) : Type 0 where
+-- n sound records of these families and a sound bus state
+pub record Sound (n : ℕ) (fs : List ℕ) (b : Bus) (ds : List Device) : Type 0 where
   pub count : length ds ≡ n
+  pub kinds : families ds ≡ fs
   pub records : allSound ds ≡ true
   pub bus : soundBus n b ≡ true
 
-module _ {n : ℕ} (σ : List ℕ) (q : BusCall) {b : Bus} {ds : List Device} (w : Sound n b ds) where
+module _ {n : ℕ} {fs : List ℕ} (σ : List ℕ) (q : BusCall) {b : Bus} {ds : List Device} (w : Sound n fs b ds) where
   -- on sound parts the arguments alone decide
-  pub number-alone : number σ q b ds ≡ refusalAlone n σ q
+  pub number-alone : number σ q b ds ≡ refusalAlone n fs σ q
   unfolding number
-  number-alone = rw (sound-for q b ds (w .records) (rw (w .count) (w .bus)), w .count)
+  number-alone = rw (sound-for q b ds (w .records) (rw (w .count) (w .bus)), w .count, w .kinds)
 
   -- accepted it is served, refused it changes nothing
-  pub bus-by : busAfter σ q b ds ≡ if (accepted n σ q) (busOf (next n σ q (stateOf b))) b
+  pub bus-by : busAfter σ q b ds ≡ if (accepted n fs σ q) (busOf (next n σ q (stateOf b))) b
   unfolding busAfter
   bus-by = rw (number-alone, w .count)
 
-  pub parts-by : partsAfter σ q b ds ≡ if (accepted n σ q) (served q (stateOf b) ds) ds
+  pub parts-by : partsAfter σ q b ds ≡ if (accepted n fs σ q) (served q (stateOf b) ds) ds
   unfolding partsAfter
   parts-by = rw number-alone
 
-  pub reply-by : reply σ q b ds ≡ if (accepted n σ q) (givenBack n σ q (stateOf b) ds) (refusedBack q)
+  pub reply-by : reply σ q b ds ≡ if (accepted n fs σ q) (givenBack n σ q (stateOf b) ds) (refusedBack q)
   unfolding reply
   reply-by = rw (number-alone, w .count)
 
   -- the bus state after it is sound, and stands for what the table says
-  pub bus-kept : (soundBus n (busAfter σ q b ds) ≡ true) × (stateOf (busAfter σ q b ds) ≡ if (accepted n σ q) (next n σ q (stateOf b)) (stateOf b))
-  bus-kept = rw bus-by (go (accepted n σ q))
+  pub bus-kept : (soundBus n (busAfter σ q b ds) ≡ true) × (stateOf (busAfter σ q b ds) ≡ if (accepted n fs σ q) (next n σ q (stateOf b)) (stateOf b))
+  bus-kept = rw bus-by (go (accepted n fs σ q))
     where
       named : Named n (next n σ q (stateOf b))
       named = next-named n σ q (stateOf b) (state-named n b (w .bus))

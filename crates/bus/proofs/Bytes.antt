@@ -2,6 +2,7 @@
 -- Assumes nothing.
 use Rattle.ground.proofs.Names.{ℕ, zero, suc, _-_, _/_, _≤_, _<_, arith, not-suc-le-zero, Bool, true, false, _&&_, List, [], _∷_, _≡_, refl, sym, ap, _∙_, eqb, leb, ltb, length, getD, set-getD, eqb-true, eq-eqb, ne-eqb, ltb-true, if, odd, and-right}
 use Rattle.device.specs.PowerUp.{powerUp}
+use Rattle.device.specs.Families.{families}
 use Rattle.device.specs.declared.Device.{Device}
 use Rattle.calls.specs.CallRefusals.{allSound}
 use Rattle.bus.specs.declared.Bus.{Bus}
@@ -59,9 +60,9 @@ slave-taken (suc k) v h = (refl, refl)
 
 module _ (σ : List ℕ) (b : Bus) (ds : List Device) (sixteen : length σ ≡ 16) where
   -- of an accepted byte
-  byte-sound : wireRefusal (length ds) (allSound ds && soundBus (length ds) b) σ ≡ 0 → (Served (length ds) σ) × (b .phase < 3)
+  byte-sound : wireRefusal (length ds) (families ds) (allSound ds && soundBus (length ds) b) σ ≡ 0 → (Served (length ds) σ) × (b .phase < 3)
   byte-sound z =
-      let w = wire-says (length ds) (allSound ds && soundBus (length ds) b) σ z in
+      let w = wire-says (length ds) (families ds) (allSound ds && soundBus (length ds) b) σ z in
       (w .1, ltb-true (b .phase) 3 (and-right (leb (b .part) (length ds)) (ltb (b .phase) 3) (and-right (allSound ds) (soundBus (length ds) b) (w .0))))
 
   quiet : (q : BusCall) → number σ q b ds ≡ 0 → b .phase < 3 → (s : State) → stateOf b ≡ s → Quiet (length ds) σ q ds s → Nobody σ q b ds b

@@ -69,28 +69,28 @@ view-sound n i b e = go (eqb (b .part) 0) refl
     go false t = inner (eqb (b .part) i)
 
 -- a transaction that is part i's is named by it
-pub ours-says : (n : ℕ) (σ : List ℕ) (k i : ℕ) (qs : List BusCall) → names n σ i (if (eqb k i) ours closed) qs ≡ true → k ≡ i
-ours-says n σ k i qs = go (eqb k i) refl
+pub ours-says : (n : ℕ) (fs σ : List ℕ) (k i : ℕ) (qs : List BusCall) → names n fs σ i (if (eqb k i) ours closed) qs ≡ true → k ≡ i
+ours-says n fs σ k i qs = go (eqb k i) refl
   where
-    go : (t : Bool) → eqb k i ≡ t → names n σ i (if t ours closed) qs ≡ true → k ≡ i
+    go : (t : Bool) → eqb k i ≡ t → names n fs σ i (if t ours closed) qs ≡ true → k ≡ i
     go true t e = eqb-true k i t
     go false t e = absurd (true≢false (sym e))
 
 -- a call that no transaction turns on is skipped
-pub names-skip : (n i : ℕ) (σ : List ℕ) (t : Turn) (q : BusCall) (qs : List BusCall) → named n σ i (q ∷ qs) ≡ named n σ i qs
-    → names n σ i t (q ∷ qs) ≡ names n σ i t qs
-names-skip n i σ closed q qs e = refl
-names-skip n i σ fresh q qs e = e
-names-skip n i σ ours q qs e = refl
+pub names-skip : (n i : ℕ) (fs σ : List ℕ) (t : Turn) (q : BusCall) (qs : List BusCall) → named n fs σ i (q ∷ qs) ≡ named n fs σ i qs
+    → names n fs σ i t (q ∷ qs) ≡ names n fs σ i t qs
+names-skip n i fs σ closed q qs e = refl
+names-skip n i fs σ fresh q qs e = e
+names-skip n i fs σ ours q qs e = refl
 
 -- a byte given, served, leaves whose the transaction is
-pub put-names : (n i : ℕ) (σ : List ℕ) (t : Turn) (v : ℕ) (qs : List BusCall) → accepted n σ (put v) ≡ true
-    → names n σ i t (put v ∷ qs) ≡ names n σ i (turnNext σ i (put v) t) qs
+pub put-names : (n i : ℕ) (fs σ : List ℕ) (t : Turn) (v : ℕ) (qs : List BusCall) → accepted n fs σ (put v) ≡ true
+    → names n fs σ i t (put v ∷ qs) ≡ names n fs σ i (turnNext σ i (put v) t) qs
 unfolding named
-put-names n i σ closed v qs a = refl
-put-names n i σ fresh v qs a =
-    rw a (elim (namesPart σ i v) as (λ t. t ≡ names n σ i (if t ours closed) qs) [ true ↦ refl | false ↦ refl ])
-put-names n i σ ours v qs a = refl
+put-names n i fs σ closed v qs a = refl
+put-names n i fs σ fresh v qs a =
+    rw a (elim (namesPart σ i v) as (λ t. t ≡ names n fs σ i (if t ours closed) qs) [ true ↦ refl | false ↦ refl ])
+put-names n i fs σ ours v qs a = refl
 
 -- a slave byte, to part i and to the lone bus
 opened-turn : (i m v : ℕ) → 1 ≤ i → turnOf i (opened m v) ≡ if (eqb m i) ours closed
@@ -101,16 +101,16 @@ opened-view : (i v : ℕ) → 1 ≤ i → opened 1 v ≡ view i (opened i v)
 opened-view zero v h = absurd (not-suc-le-zero h)
 opened-view (suc k) v h = rw (eq-eqb (suc k) (suc k) refl)
 
-module _ (n i : ℕ) (σ rest : List ℕ) (sixteen : length σ ≡ 16) (h : 1 ≤ i) (g : i ≤ n) where
+module _ (n i : ℕ) (fs σ rest : List ℕ) (sixteen : length σ ≡ 16) (h : 1 ≤ i) (g : i ≤ n) where
   -- a slave byte that is part i's is matched by part i, and on the lone bus
-  pub own-match : (v : ℕ) → accepted n σ (put v) ≡ true → namesPart σ i v ≡ true → (matched n σ v ≡ i) × (matched 1 (strapOf σ i ∷ rest) v ≡ 1)
-  own-match v a e = (matches sixteen (wire-served n σ a) v i h g (eqb-true _ _ e), match-alone (strapOf σ i) v rest ∙ rw e)
+  pub own-match : (v : ℕ) → accepted n fs σ (put v) ≡ true → namesPart σ i v ≡ true → (matched n σ v ≡ i) × (matched 1 (strapOf σ i ∷ rest) v ≡ 1)
+  own-match v a e = (matches sixteen (wire-served n fs σ a) v i h g (eqb-true _ _ e), match-alone (strapOf σ i) v rest ∙ rw e)
 
   -- the tracker follows the table
-  pub turn-follows : (q : BusCall) (s : State) → accepted n σ q ≡ true → turnOf i (next n σ q s) ≡ turnNext σ i q (turnOf i s)
+  pub turn-follows : (q : BusCall) (s : State) → accepted n fs σ q ≡ true → turnOf i (next n σ q s) ≡ turnNext σ i q (turnOf i s)
   turn-follows start s a = refl
   turn-follows (put v) idle a = refl
-  turn-follows (put v) slave a = opened-turn i (matched n σ v) v h ∙ rw (match-own sixteen (wire-served n σ a) v i h g)
+  turn-follows (put v) slave a = opened-turn i (matched n σ v) v h ∙ rw (match-own sixteen (wire-served n fs σ a) v i h g)
   turn-follows (put v) unmatched a = refl
   turn-follows (put v) (transfer k u) a =
       elim (eqb k i) as (λ t. if t ours closed ≡ turnNext σ i (put v) (if t ours closed)) [ true ↦ refl | false ↦ refl ]
@@ -120,7 +120,7 @@ module _ (n i : ℕ) (σ rest : List ℕ) (sixteen : length σ ≡ 16) (h : 1 �
   turn-follows (ask j x) s a = refl
 
   -- a byte given, served: the lone bus goes on as the whole bus
-  pub put-view : (v : ℕ) (s : State) (qs : List BusCall) → accepted n σ (put v) ≡ true → names n σ i (turnOf i s) (put v ∷ qs) ≡ true
+  pub put-view : (v : ℕ) (s : State) (qs : List BusCall) → accepted n fs σ (put v) ≡ true → names n fs σ i (turnOf i s) (put v ∷ qs) ≡ true
       → next 1 (strapOf σ i ∷ rest) (put v) (view i s) ≡ view i (next n σ (put v) s)
   unfolding named
   put-view v idle qs a e = absurd (true≢false (sym e))
@@ -128,4 +128,4 @@ module _ (n i : ℕ) (σ rest : List ℕ) (sixteen : length σ ≡ 16) (h : 1 �
       let m = own-match v a (rw a at e) in
       rw (m .0, m .1) (opened-view i v h)
   put-view v unmatched qs a e = absurd (true≢false (sym e))
-  put-view v (transfer k u) qs a e = rw (ours-says n σ k i (put v ∷ qs) e, eq-eqb i i refl)
+  put-view v (transfer k u) qs a e = rw (ours-says n fs σ k i (put v ∷ qs) e, eq-eqb i i refl)

@@ -5,6 +5,7 @@ use mathlib.Core.List.{List}
 use lib.Dec.{eqb}
 use lib.ListN.{length}
 use Rattle.ground.specs.Choice.{if}
+use Rattle.device.specs.Families.{families}
 use Rattle.device.specs.declared.Device.{Device}
 use Rattle.bus.specs.declared.Bus.{Bus}
 use Rattle.bus.specs.States.{stateOf, busOf}
@@ -14,7 +15,7 @@ use Rattle.bus.specs.BusServed.{next, served, givenBack, refusedBack}
 
 -- the number of a call under straps σ: 0 where it is served
 unfoldable pub number : List ℕ → BusCall → Bus → List Device → ℕ
-number σ q b ds = busRefusalBy (length ds) (soundFor q b ds) σ q
+number σ q b ds = busRefusalBy (length ds) (families ds) (soundFor q b ds) σ q
 
 -- the bus state after it; apart from 0 nothing changes
 unfoldable pub busAfter : List ℕ → BusCall → Bus → List Device → Bus

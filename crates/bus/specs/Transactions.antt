@@ -9,8 +9,9 @@ use Rattle.words.specs.Addresses.{writtenAt, readAt}
 use Rattle.registers.specs.Registers.{written, dataOf, afterRead}
 use Rattle.registers.specs.declared.Registers.{Registers}
 use Rattle.device.specs.Record.{withRegisters, withCommand}
+use Rattle.device.specs.Families.{families}
 use Rattle.device.specs.declared.Device.{Device}
-use Rattle.calls.specs.CallRefusals.{allSound}
+use Rattle.calls.specs.CallRefusals.{familiesBelow, allSound}
 use Rattle.calls.specs.Served.{recordOf, withRecord}
 use Rattle.bus.specs.declared.Bus.{Bus}
 use Rattle.bus.specs.Straps.{strapOf, distinct, sevenBits}
@@ -48,7 +49,7 @@ pub record Ran (σ : List ℕ) (qs : List BusCall) (b : Bus) (ds : List Device) 
   pub parts-left : partsAll σ qs b ds ≡ ds′
   pub given-back : replies σ qs b ds ≡ rs
 
--- sixteen straps, of which those that count are distinct and seven bits; sound records and a sound bus state; a part that is there.
+-- sixteen straps, of which those that count are distinct and seven bits; sound records of the old family and a sound bus state; a part that is there.
 -- Every byte is acknowledged, no other record changes, and the bus is idle again
 pub record Transaction (σ : List ℕ) (b : Bus) (ds : List Device) (k : ℕ) : Type 0 where
   pub write : (a : ℕ) (vs : List ℕ) →
@@ -72,6 +73,7 @@ Transactions =
     → length ds ≤ 16
     → distinct (take (length ds) σ) ≡ true
     → sevenBits (take (length ds) σ) ≡ true
+    → familiesBelow 1 (families ds) ≡ true
     → allSound ds ≡ true
     → soundBus (length ds) b ≡ true
     → (k : ℕ)

@@ -3,7 +3,7 @@
 use Rattle.ground.proofs.Names.{ℕ, _-_, _*_, _≤_, arith, Bool, true, false, List, [], _∷_, map, _≡_, refl, ap, _∙_, eqb, length, getD-set-same, getD-set-other, eqb-true, eqb-false, if}
 use Rattle.refusals.specs.Refusals.{bytesFor}
 use Rattle.device.specs.PowerUp.{powerUp}
-use Rattle.device.specs.Taken.{taken}
+use Rattle.device.specs.Families.{takes, families}
 use Rattle.device.specs.declared.Device.{Device}
 use Rattle.calls.specs.Calls.{Step, Question, ChainQuestion, Call, access, give, ask, askChain}
 use Rattle.calls.specs.CallRefusals.{allSound, shortestRefusal}
@@ -12,7 +12,7 @@ use Rattle.calls.specs.Outcome.{number, after, reply}
 use Rattle.calls.specs.CallLists.{afterAll, numbers, replies}
 use Rattle.calls.specs.Isolation.{refusalAlone, accepted, loneStep, loneReply, answeredBy, loneAfter, lone, loneReplies, allAnsweredBy, Full, AllFull, ownNumber, ownNumbers, Isolation}
 use Rattle.calls.proofs.Accepted.{zero-says, driver-there, sent-enough, after-same, number-alone, after-by, reply-by}
-use Rattle.calls.proofs.Records.{length-after, length-afterAll}
+use Rattle.calls.proofs.Records.{length-after, families-after, families-afterAll, length-afterAll}
 use Rattle.calls.proofs.Sound.{after-sound, all-sound}
 use Rattle.calls.proofs.Answered.{taken-at, own-taken, own-answered}
 
@@ -26,7 +26,7 @@ module _ (i : ℕ) (ds : List Device) (h : 1 ≤ i) (g : i ≤ length ds) where
   access-own : (c : ℕ) (sent room : List ℕ) → c ≡ 16 * length ds → bytesFor c ≤ length sent → Own (length ds) i (access c sent room) ds
   access-own c sent room e f =
       record {
-        left = taken-at ds i h g c sent room ∙ ap (taken (recordOf ds i)) (own-taken ds i h g c sent e f);
+        left = taken-at ds i h g c sent room ∙ ap (takes (recordOf ds i)) (own-taken ds i h g c sent e f);
         back = ap (λ (w : ℕ). (w ∷ []) ∷ []) (own-answered ds i h g c sent room (omega arith) f);
       }
 
@@ -51,74 +51,75 @@ module _ (i : ℕ) (ds : List Device) (h : 1 ≤ i) (g : i ≤ length ds) where
   chain-own q = record { left = refl; back = refl }
 
   -- any accepted call
-  own : (q : Call) → Full (length ds) q → accepted (length ds) q ≡ true → Own (length ds) i q ds
-  own (access c sent room) f t =
-      let a = zero-says (length ds) true 0 (access c sent room) (eqb-true _ 0 t) in
+  own : (fs : List ℕ) (q : Call) → Full (length ds) fs q → accepted (length ds) fs q ≡ true → Own (length ds) i q ds
+  own fs (access c sent room) f t =
+      let a = zero-says (length ds) fs true 0 (access c sent room) (eqb-true _ 0 t) in
       access-own c sent room (f t) (sent-enough c (length sent) (length room) (a .bytes))
-  own (give j s) f t =
-      let a = zero-says (length ds) true 0 (give j s) (eqb-true _ 0 t) in
+  own fs (give j s) f t =
+      let a = zero-says (length ds) fs true 0 (give j s) (eqb-true _ 0 t) in
       give-own j s (driver-there (length ds) j (a .named) .0)
-  own (ask j q) f t = ask-own j q
-  own (askChain q) f t = chain-own q
+  own fs (ask j q) f t = ask-own j q
+  own fs (askChain q) f t = chain-own q
 
 -- what one call, served or refused, leaves and gives back
-record Stepped (n i : ℕ) (q : Call) (ds : List Device) : Type 0 where
-  left : recordOf (after q ds) i ≡ loneAfter n i q (recordOf ds i)
-  back : if (accepted n q) (answeredBy n i q (reply q ds)) [] ≡ if (accepted n q) (loneReply i q (recordOf ds i)) []
+record Stepped (n : ℕ) (fs : List ℕ) (i : ℕ) (q : Call) (ds : List Device) : Type 0 where
+  left : recordOf (after q ds) i ≡ loneAfter n fs i q (recordOf ds i)
+  back : if (accepted n fs q) (answeredBy n i q (reply q ds)) [] ≡ if (accepted n fs q) (loneReply i q (recordOf ds i)) []
 
 -- one call on sound records, whose number its arguments alone decide
-decided-own : (i : ℕ) (q : Call) (ds : List Device) → allSound ds ≡ true → shortestRefusal ds q ≡ 0 → Full (length ds) q → 1 ≤ i → i ≤ length ds
-    → Stepped (length ds) i q ds
-decided-own i q ds s z f h g = go (accepted (length ds) q) refl
+decided-own : (i : ℕ) (q : Call) (ds : List Device) → allSound ds ≡ true → shortestRefusal ds q ≡ 0 → Full (length ds) (families ds) q → 1 ≤ i → i ≤ length ds
+    → Stepped (length ds) (families ds) i q ds
+decided-own i q ds s z f h g = go (accepted (length ds) (families ds) q) refl
   where
-    go : (b : Bool) → accepted (length ds) q ≡ b → Stepped (length ds) i q ds
+    go : (b : Bool) → accepted (length ds) (families ds) q ≡ b → Stepped (length ds) (families ds) i q ds
     go true t =
-        let o = own i ds h g q f t in
-        record { left = rw (after-by (length ds) q ds refl s z, t) (o .left); back = rw (reply-by (length ds) q ds refl s z, t) (o .back) }
-    go false t = record { left = rw (after-by (length ds) q ds refl s z, t); back = rw t }
+        let o = own i ds h g (families ds) q f t in
+        record { left = rw (after-by (length ds) (families ds) q ds refl refl s z, t) (o .left); back = rw (reply-by (length ds) (families ds) q ds refl refl s z, t) (o .back) }
+    go false t = record { left = rw (after-by (length ds) (families ds) q ds refl refl s z, t); back = rw t }
 
 -- any call; what the chain is asked is nothing to a driver
-call-own : (i : ℕ) (q : Call) (ds : List Device) → allSound ds ≡ true → Full (length ds) q → 1 ≤ i → i ≤ length ds → Stepped (length ds) i q ds
+call-own : (i : ℕ) (q : Call) (ds : List Device) → allSound ds ≡ true → Full (length ds) (families ds) q → 1 ≤ i → i ≤ length ds → Stepped (length ds) (families ds) i q ds
 call-own i (access c sent room) ds s f h g = decided-own i (access c sent room) ds s refl f h g
 call-own i (give j x) ds s f h g = decided-own i (give j x) ds s refl f h g
 call-own i (ask j x) ds s f h g = decided-own i (ask j x) ds s refl f h g
 call-own i (askChain x) ds s f h g =
-    let same = elim (accepted (length ds) (askChain x)) as (λ b. recordOf ds i ≡ if b (recordOf ds i) (recordOf ds i)) [ true ↦ refl | false ↦ refl ] in
+    let same = elim (accepted (length ds) (families ds) (askChain x)) as (λ b. recordOf ds i ≡ if b (recordOf ds i) (recordOf ds i)) [ true ↦ refl | false ↦ refl ] in
     record { left = rw (after-same (askChain x) ds refl) same; back = refl }
 
-call-number : (n : ℕ) (q : Call) (ds : List Device) → length ds ≡ n → allSound ds ≡ true → ownNumber q (number q ds) ≡ ownNumber q (refusalAlone n q)
-call-number n (access c sent room) ds l s = ap (λ (k : ℕ). k ∷ []) (number-alone n (access c sent room) ds l s refl)
-call-number n (give j x) ds l s = ap (λ (k : ℕ). k ∷ []) (number-alone n (give j x) ds l s refl)
-call-number n (ask j x) ds l s = ap (λ (k : ℕ). k ∷ []) (number-alone n (ask j x) ds l s refl)
-call-number n (askChain x) ds l s = refl
+call-number : (n : ℕ) (fs : List ℕ) (q : Call) (ds : List Device) → length ds ≡ n → families ds ≡ fs → allSound ds ≡ true → ownNumber q (number q ds) ≡ ownNumber q (refusalAlone n fs q)
+call-number n fs (access c sent room) ds l k s = ap (λ (k : ℕ). k ∷ []) (number-alone n fs (access c sent room) ds l k s refl)
+call-number n fs (give j x) ds l k s = ap (λ (k : ℕ). k ∷ []) (number-alone n fs (give j x) ds l k s refl)
+call-number n fs (ask j x) ds l k s = ap (λ (k : ℕ). k ∷ []) (number-alone n fs (ask j x) ds l k s refl)
+call-number n fs (askChain x) ds l k s = refl
 
 -- the theorem's first three parts, at each length
-record Told (n i : ℕ) (qs : List Call) (ds : List Device) : Type 0 where
-  numbered : ownNumbers qs (numbers qs ds) ≡ ownNumbers qs (map (refusalAlone n) qs)
-  left : recordOf (afterAll qs ds) i ≡ lone n i qs (recordOf ds i)
-  back : allAnsweredBy n i qs (replies qs ds) ≡ loneReplies n i qs (recordOf ds i)
+record Told (n : ℕ) (fs : List ℕ) (i : ℕ) (qs : List Call) (ds : List Device) : Type 0 where
+  numbered : ownNumbers qs (numbers qs ds) ≡ ownNumbers qs (map (refusalAlone n fs) qs)
+  left : recordOf (afterAll qs ds) i ≡ lone n fs i qs (recordOf ds i)
+  back : allAnsweredBy n fs i qs (replies qs ds) ≡ loneReplies n fs i qs (recordOf ds i)
 
 -- by induction on the list
-told : (n i : ℕ) → 1 ≤ i → i ≤ n → (qs : List Call) (ds : List Device) → length ds ≡ n → allSound ds ≡ true → AllFull n qs → Told n i qs ds
+told : (n : ℕ) (fs : List ℕ) (i : ℕ) → 1 ≤ i → i ≤ n → (qs : List Call) (ds : List Device) → length ds ≡ n → families ds ≡ fs → allSound ds ≡ true → AllFull n fs qs → Told n fs i qs ds
 unfolding afterAll numbers replies lone loneReplies allAnsweredBy ownNumbers AllFull
-told n i h g [] ds l s f = record { numbered = refl; left = refl; back = refl }
-told n i h g (q ∷ qs) ds l s f =
-    let t : Stepped n i q ds = rw l at (call-own i q ds s (rw l (f .0)) h (rw l g)) in
-    let r = told n i h g qs (after q ds) (length-after q ds ∙ l) (after-sound q ds s) (f .1) in
+told n fs i h g [] ds l k s f = record { numbered = refl; left = refl; back = refl }
+told n fs i h g (q ∷ qs) ds l k s f =
+    let t : Stepped n fs i q ds = rw (l, k) at (call-own i q ds s (rw (l, k) (f .0)) h (rw l g)) in
+    let r = told n fs i h g qs (after q ds) (length-after q ds ∙ l) (families-after q ds ∙ k) (after-sound q ds s) (f .1) in
     record {
-      numbered = rw (call-number n q ds l s, r .numbered);
-      left = r .left ∙ ap (lone n i qs) (t .left);
+      numbered = rw (call-number n fs q ds l k s, r .numbered);
+      left = r .left ∙ ap (lone n fs i qs) (t .left);
       back = rw (t .back, r .back, t .left);
     }
 
 -- the outputs are what the record, now the lone driver's, answers
 pub isolated : Isolation
 isolated qs ds s f i h g =
-    let t = told (length ds) i h g qs ds refl s f in
+    let t = told (length ds) (families ds) i h g qs ds refl refl s f in
     record {
       same-numbers = t .numbered;
+      same-families = families-afterAll qs ds;
       same-record = t .left;
       same-answers = t .back;
       same-outputs = λ q a.
-          reply-by (length ds) (ask i q) (afterAll qs ds) (length-afterAll qs ds) (all-sound qs ds s) refl ∙ rw (a, t .left);
+          reply-by (length ds) (families ds) (ask i q) (afterAll qs ds) (length-afterAll qs ds) (families-afterAll qs ds) (all-sound qs ds s) refl ∙ rw (a, t .left);
     }

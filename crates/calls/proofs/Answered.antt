@@ -7,7 +7,7 @@ use Rattle.wire.specs.Wire.{answer}
 use Rattle.wire.proofs.LineLaws.{length-answer}
 use Rattle.wire.proofs.WholeLaws.{whole, word-append}
 use Rattle.device.specs.PowerUp.{powerUp}
-use Rattle.device.specs.Taken.{taken}
+use Rattle.device.specs.Families.{takes}
 use Rattle.device.specs.declared.Device.{Device}
 use Rattle.calls.specs.Calls.{access}
 use Rattle.calls.specs.Served.{recordOf, shiftWords, served, givenBack}
@@ -16,7 +16,7 @@ use Rattle.calls.specs.Isolation.{ownWord}
 
 module _ (ds : List Device) (i : ℕ) (h : 1 ≤ i) (g : i ≤ length ds) where
   -- the driver obeys the word that it takes
-  pub taken-at : (c : ℕ) (sent room : List ℕ) → recordOf (served (access c sent room) ds) i ≡ taken (recordOf ds i) (wordTaken ds c sent i)
+  pub taken-at : (c : ℕ) (sent room : List ℕ) → recordOf (served (access c sent room) ds) i ≡ takes (recordOf ds i) (wordTaken ds c sent i)
   taken-at c sent room = getD-tabulate (length ds) _ powerUp (i - 1) (omega arith)
 
   -- with 16 clocks for each driver, it takes its own word of those sent

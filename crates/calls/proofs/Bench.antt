@@ -4,41 +4,43 @@ use Rattle.ground.proofs.Names.{refl, tabulate, Agree}
 use Rattle.wire.specs.Bits.{bits, value, unpack, byteAt, pack, wordAt}
 use Rattle.wire.specs.Wire.{string, words, wire, answer, shifted}
 use Rattle.device.specs.Taken.{taken}
+use Rattle.device.specs.Families.{takes, pinned, soundRecord}
+use Rattle.port_registers.specs.Ports.{portTaken, portData, portPinned, soundPorts, portStates}
 use Rattle.plans.specs.Words.{every}
 use Rattle.plans.specs.Check.{below, same, acceptedWords, acceptedList}
 use Rattle.plans.specs.Least.{total}
 use Rattle.plans.specs.Plan.{steps, planBy, largest, accesses, planned}
 use Rattle.display.specs.Examples.{WireExamples}
-use Rattle.calls.specs.CallRefusals.{allSound}
+use Rattle.calls.specs.CallRefusals.{familiesBelow, allSound}
 use Rattle.calls.specs.Outcome.{number, after, reply}
 use Rattle.calls.specs.CallLists.{afterAll, numbers, replies}
 use Rattle.calls.specs.Examples.{rows, numberRows, answerRows, markRows, planRows, lookBackRows, Examples}
 
 bench : Agree rows
-unfolding tabulate bits value unpack byteAt pack wordAt string words wire answer shifted taken allSound number after reply afterAll numbers replies
+unfolding tabulate bits value unpack byteAt pack wordAt string words wire answer shifted taken takes portTaken portData soundPorts portPinned portStates familiesBelow soundRecord pinned allSound number after reply afterAll numbers replies
 bench = refl
 
 bench-wires : WireExamples
 bench-wires = refl
 
 bench-numbers : Agree numberRows
-unfolding tabulate allSound number
+unfolding tabulate familiesBelow soundRecord pinned allSound number
 bench-numbers = refl
 
 bench-answers : Agree answerRows
-unfolding tabulate taken allSound number after reply afterAll
+unfolding tabulate taken takes portTaken portData soundPorts portPinned portStates familiesBelow soundRecord pinned allSound number after reply afterAll
 bench-answers = refl
 
 bench-marks : Agree markRows
-unfolding bits value unpack byteAt pack wordAt string words wire answer shifted taken tabulate allSound number after reply afterAll
+unfolding bits value unpack byteAt pack wordAt string words wire answer shifted taken takes portTaken portData soundPorts portPinned portStates tabulate familiesBelow soundRecord pinned allSound number after reply afterAll
 bench-marks = refl
 
 bench-plans : Agree planRows
-unfolding tabulate total steps planBy largest accesses planned below same every acceptedWords acceptedList taken allSound number reply
+unfolding tabulate total steps planBy largest accesses planned below same every acceptedWords acceptedList taken takes portTaken portData soundPorts portPinned portStates familiesBelow soundRecord pinned allSound number reply
 bench-plans = refl
 
 bench-looks : Agree lookBackRows
-unfolding taken allSound number reply
+unfolding taken takes portTaken portData soundPorts portPinned portStates familiesBelow soundRecord pinned allSound number reply
 bench-looks = refl
 
 pub examples : Examples

@@ -2,7 +2,7 @@
 -- Assumes nothing.
 use Rattle.ground.proofs.Names.{ℕ, _≤_, List, _≡_, refl, ap, _∙_, length, ne-eqb, if, bit}
 use Rattle.device.specs.declared.Device.{Device}
-use Rattle.device.proofs.Shift.{shift-word}
+use Rattle.device.proofs.Families.{pinned-mark, both-families}
 use Rattle.calls.specs.Calls.{Step, scan, levels, clocks, Call, access, ask, askChain}
 use Rattle.calls.specs.Served.{recordOf, stepped}
 use Rattle.calls.specs.Outcome.{number, after}
@@ -15,7 +15,7 @@ use Rattle.calls.proofs.Answered.{taken-at}
 -- no step touches the mark
 same-mark : (s : Step) (x : Device) → stepped s x .«answer_mark» ≡ x .«answer_mark»
 same-mark (scan a b c d) x = refl
-same-mark (levels l) x = refl
+same-mark (levels l) x = pinned-mark x l
 same-mark (clocks k) x = refl
 
 by-access : (ds : List Device) (c : ℕ) (sent room : List ℕ) (i : ℕ) → 1 ≤ i → i ≤ length ds
@@ -24,7 +24,7 @@ by-access : (ds : List Device) (c : ℕ) (sent room : List ℕ) (i : ℕ) → 1 
 by-access ds c sent room i h g z =
     ap (λ (xs : List Device). recordOf xs i .«answer_mark») (after-zero (access c sent room) ds z)
     ∙ ap (λ (d : Device). d .«answer_mark») (taken-at ds i h g c sent room)
-    ∙ shift-word .marked (recordOf ds i) (wordTaken ds c sent i)
+    ∙ both-families .word .marked (recordOf ds i) (wordTaken ds c sent i)
 
 by-refused : (ds : List Device) (q : Call) → (number q ds ≡ 0 → ⊥) → marks (after q ds) ≡ marks ds
 unfolding after

@@ -1,32 +1,34 @@
 -- Lists of records: what each call leaves of their number, and when they are sound.
 -- Assumes nothing.
-use Rattle.ground.proofs.Names.{ℕ, zero, suc, _-_, _<_, arith, Bool, true, false, List, [], _∷_, map, _≡_, refl, sym, _∙_, eqb, length, getD, set, length-set, map-set-same, getD-set-same, getD-set-other, eqb-true, eqb-false, if, length-tabulate, and-left, and-right}
+use Rattle.ground.proofs.Names.{ℕ, zero, suc, _-_, _<_, arith, Bool, true, false, List, [], _∷_, map, _≡_, refl, sym, ap, _∙_, eqb, length, getD, set, length-set, length-map, map-set-same, ext-getD, List·getD-map, getD-tabulate, getD-set-same, getD-set-other, eqb-true, eqb-false, if, length-tabulate, and-left, and-right}
 use Rattle.device.specs.PowerUp.{powerUp}
-use Rattle.device.specs.Sound.{soundOf}
+use Rattle.device.specs.Families.{takes, families, soundRecord}
 use Rattle.device.specs.declared.Device.{Device}
-use Rattle.calls.specs.Calls.{Step, Call, access, give, ask, askChain}
-use Rattle.calls.specs.CallRefusals.{allSound}
-use Rattle.calls.specs.Served.{recordOf, stepped, served}
+use Rattle.device.proofs.Families.{takes-family, pinned-family, both-families}
+use Rattle.calls.specs.Calls.{Step, scan, levels, clocks, Call, access, give, ask, askChain}
+use Rattle.calls.specs.CallRefusals.{familyAt, allSound}
+use Rattle.wire.specs.Wire.{shifted}
+use Rattle.calls.specs.Served.{recordOf, shiftWords, allTaken, stepped, served}
 use Rattle.calls.specs.Outcome.{number, after}
 use Rattle.calls.specs.CallLists.{afterAll}
 
 -- sound records: each is sound
-pub sound-at : (ds : List Device) → allSound ds ≡ true → (k : ℕ) → soundOf (getD ds k powerUp) ≡ true
+pub sound-at : (ds : List Device) → allSound ds ≡ true → (k : ℕ) → soundRecord (getD ds k powerUp) ≡ true
 unfolding allSound
-sound-at [] s k = refl
-sound-at (d ∷ ds) s zero = and-left (soundOf d) (allSound ds) s
-sound-at (d ∷ ds) s (suc k) = sound-at ds (and-right (soundOf d) (allSound ds) s) k
+sound-at [] s k = both-families .sound .at-power-up 255 .0
+sound-at (d ∷ ds) s zero = and-left (soundRecord d) (allSound ds) s
+sound-at (d ∷ ds) s (suc k) = sound-at ds (and-right (soundRecord d) (allSound ds) s) k
 
-pub sound-all : (ds : List Device) → ((k : ℕ) → k < length ds → soundOf (getD ds k powerUp) ≡ true) → allSound ds ≡ true
+pub sound-all : (ds : List Device) → ((k : ℕ) → k < length ds → soundRecord (getD ds k powerUp) ≡ true) → allSound ds ≡ true
 unfolding allSound
 sound-all [] h = refl
 sound-all (d ∷ ds) h = rw (h 0 (omega arith), sound-all ds (λ k l. h (suc k) (omega arith)))
 
 -- one record replaced by a sound one
-pub sound-set : (ds : List Device) (j : ℕ) (x : Device) → allSound ds ≡ true → soundOf x ≡ true → allSound (set ds j x) ≡ true
+pub sound-set : (ds : List Device) (j : ℕ) (x : Device) → allSound ds ≡ true → soundRecord x ≡ true → allSound (set ds j x) ≡ true
 sound-set ds j x s sx = sound-all (set ds j x) (λ k h. go k (rw length-set at h) (eqb k j) refl)
   where
-    go : (k : ℕ) → k < length ds → (b : Bool) → eqb k j ≡ b → soundOf (getD (set ds j x) k powerUp) ≡ true
+    go : (k : ℕ) → k < length ds → (b : Bool) → eqb k j ≡ b → soundRecord (getD (set ds j x) k powerUp) ≡ true
     go k h true e =
         let q : j ≡ k = sym (eqb-true k j e) in
         rw (q, getD-set-same ds k x powerUp h) sx
@@ -50,6 +52,38 @@ unfolding after
 given-same f e j s ds =
     elim (eqb (number (give j s) ds) 0) as (λ b. map f (if b (served (give j s) ds) ds) ≡ map f ds)
     [ true ↦ map-set-same f ds (j - 1) _ powerUp (e s (recordOf ds j)) | false ↦ refl ]
+
+-- no call changes a family
+pub same-family : (s : Step) (x : Device) → stepped s x .family ≡ x .family
+same-family (scan a b c d) x = refl
+same-family (levels l) x = pinned-family x l
+same-family (clocks k) x = refl
+
+-- what no word touches is as it was after every driver takes its own
+taken-same : (f : Device → ℕ) → ((x : Device) (w : ℕ) → f (takes x w) ≡ f x) → (ds : List Device) (ws : List ℕ) → map f (allTaken ds ws) ≡ map f ds
+taken-same f e ds ws =
+    ext-getD (f powerUp) _ _ (length-map (allTaken ds ws) f ∙ length-tabulate (length ds) _ ∙ sym (length-map ds f)) (λ i h.
+    let b : i < length ds = rw (length-map, length-tabulate) at h in
+    List·getD-map f (allTaken ds ws) i powerUp ∙ ap f (getD-tabulate (length ds) _ powerUp i b) ∙ e (getD ds i powerUp) (getD ws i 0) ∙ sym (List·getD-map f ds i powerUp))
+
+families-served : (q : Call) (ds : List Device) → families (served q ds) ≡ families ds
+families-served (access c sent room) ds = taken-same (λ d. d .family) takes-family ds (shifted (shiftWords ds) sent c)
+families-served (give j s) ds = map-set-same (λ (d : Device). d .family) ds (j - 1) _ powerUp (same-family s (recordOf ds j))
+families-served (ask j q) ds = refl
+families-served (askChain q) ds = refl
+
+pub families-after : (q : Call) (ds : List Device) → families (after q ds) ≡ families ds
+unfolding after
+families-after q ds = elim (eqb (number q ds) 0) as (λ b. families (if b (served q ds) ds) ≡ families ds) [ true ↦ families-served q ds | false ↦ refl ]
+
+pub families-afterAll : (qs : List Call) (ds : List Device) → families (afterAll qs ds) ≡ families ds
+unfolding afterAll
+families-afterAll [] ds = refl
+families-afterAll (q ∷ qs) ds = families-afterAll qs (after q ds) ∙ families-after q ds
+
+-- a driver's family by those of the row
+pub family-at : (ds : List Device) (j : ℕ) → familyAt (families ds) j ≡ recordOf ds j .family
+family-at ds j = List·getD-map (λ (d : Device). d .family) ds (j - 1) powerUp
 
 pub length-afterAll : (qs : List Call) (ds : List Device) → length (afterAll qs ds) ≡ length ds
 unfolding afterAll

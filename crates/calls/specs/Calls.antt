@@ -1,4 +1,4 @@
--- Believed: document 01, and document 02, requests 1, 6 and 9: the calls on a chain, with their arguments. Drivers are counted from 1, driver 1 nearest the controller.
+-- Believed: document 01, and document 02, requests 1, 6, 8 and 9: the calls on a chain, with their arguments. Drivers are counted from 1, driver 1 nearest the controller.
 -- Assumes nothing.
 use Prim.Native.Nat.{ℕ}
 use mathlib.Core.List.{List}
@@ -30,6 +30,8 @@ pub data Question : Type 0 where
   answerMark : Question
   -- one plane byte after a list of the driver's words: plane, digit, the words (document 02, request 9)
   lookBack : ℕ → ℕ → List ℕ → Question
+  -- what each of P4 to P31 of a MAX6957 shows (document 02, request 8)
+  ports : Question
 
 -- what a whole chain is asked: no driver is named, and no record changes
 pub data ChainQuestion : Type 0 where

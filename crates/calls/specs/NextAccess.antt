@@ -6,11 +6,10 @@ use mathlib.Core.List.{List, [], _∷_}
 use mathlib.Core.Path.{_≡_}
 use lib.ListN.{length, getD}
 use Rattle.ground.specs.Choice.{bit}
-use Rattle.words.specs.Addresses.{readAt}
 use Rattle.wire.specs.Bits.{bits, value}
 use Rattle.wire.specs.Wire.{shifted}
-use Rattle.registers.specs.Registers.{dataOf}
 use Rattle.device.specs.Taken.{answerWord}
+use Rattle.device.specs.Families.{dataAt, families}
 use Rattle.device.specs.declared.Device.{Device}
 use Rattle.calls.specs.Calls.{Call, access, give, ask, askChain}
 use Rattle.calls.specs.CallRefusals.{allSound}
@@ -20,12 +19,12 @@ use Rattle.calls.specs.CallLists.{afterAll}
 use Rattle.calls.specs.Isolation.{accepted, ownWord}
 
 -- no call of a list is an accepted access
-unfoldable pub NoAccess : ℕ → List Call → Type 0
-NoAccess n [] = Unit {0}
-NoAccess n (access c sent room ∷ qs) = (accepted n (access c sent room) ≡ false) × NoAccess n qs
-NoAccess n (give j s ∷ qs) = NoAccess n qs
-NoAccess n (ask j q ∷ qs) = NoAccess n qs
-NoAccess n (askChain q ∷ qs) = NoAccess n qs
+unfoldable pub NoAccess : ℕ → List ℕ → List Call → Type 0
+NoAccess n fs [] = Unit {0}
+NoAccess n fs (access c sent room ∷ qs) = (accepted n fs (access c sent room) ≡ false) × NoAccess n fs qs
+NoAccess n fs (give j s ∷ qs) = NoAccess n fs qs
+NoAccess n fs (ask j q ∷ qs) = NoAccess n fs qs
+NoAccess n fs (askChain q ∷ qs) = NoAccess n fs qs
 
 -- the word that driver i takes in an access
 abbrev pub wordTaken : List Device → ℕ → List ℕ → ℕ → ℕ
@@ -38,12 +37,12 @@ pub record NextAccess : Type 0 where
       → 1 ≤ i → i ≤ length ds
       → number (access c sent room) ds ≡ 0
       → bit 15 (wordTaken ds c sent i) ≡ true
-      → NoAccess (length ds) qs
+      → NoAccess (length ds) (families ds) qs
       → number (access next nextSent nextRoom) (afterAll qs (after (access c sent room) ds)) ≡ 0
       → 16 * length ds ≤ next
       → ownWord (length ds) i (reply (access next nextSent nextRoom) (afterAll qs (after (access c sent room) ds)))
-      ≡ value (bits 16 (answerWord (wordTaken ds c sent i) (dataOf (recordOf ds i .registers) (readAt (wordTaken ds c sent i / 256 % 128)))))
-  -- an access answers by the shift words before it and the bits sent alone, whatever the registers hold
+      ≡ value (bits 16 (answerWord (wordTaken ds c sent i) (dataAt (recordOf ds i) (wordTaken ds c sent i / 256 % 128))))
+  -- an access answers by the shift words before it and the bits sent alone, whatever the registers of the same families hold
   pub not-its-own : (ds es : List Device) (c : ℕ) (sent room : List ℕ)
-      → shiftWords ds ≡ shiftWords es → allSound ds ≡ allSound es
+      → shiftWords ds ≡ shiftWords es → allSound ds ≡ allSound es → families ds ≡ families es
       → reply (access c sent room) ds ≡ reply (access c sent room) es

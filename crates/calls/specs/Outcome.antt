@@ -5,6 +5,7 @@ use mathlib.Core.List.{List}
 use lib.Dec.{eqb}
 use lib.ListN.{length}
 use Rattle.ground.specs.Choice.{if}
+use Rattle.device.specs.Families.{families}
 use Rattle.device.specs.declared.Device.{Device}
 use Rattle.calls.specs.Calls.{Call}
 use Rattle.calls.specs.CallRefusals.{allSound, shortestRefusal, refusalBy}
@@ -12,7 +13,7 @@ use Rattle.calls.specs.Served.{served, givenBack, refusedBack}
 
 -- the number of a call on a chain: 0 where it is served
 unfoldable pub number : Call → List Device → ℕ
-number q ds = refusalBy (length ds) (allSound ds) (shortestRefusal ds q) q
+number q ds = refusalBy (length ds) (families ds) (allSound ds) (shortestRefusal ds q) q
 
 -- the chain's records after it; apart from 0 nothing changes
 unfoldable pub after : Call → List Device → List Device

@@ -5,6 +5,8 @@ use Rattle.answers.proofs.ShownAnswer as H
 use Rattle.answers.proofs.ShownAnswer.Laws as H′
 use Rattle.answers.proofs.InterruptAnswer as I
 use Rattle.answers.proofs.InterruptAnswer.Laws as I′
+use Rattle.answers.proofs.PortAnswer as T
+use Rattle.answers.proofs.PortAnswer.Laws as T′
 use Rattle.answers.proofs.MarkAnswer as M
 use Rattle.answers.proofs.MarkAnswer.Laws as M′
 use Rattle.brightness.proofs.BrightnessAnswer as B
@@ -29,6 +31,9 @@ shownAnswer = rec H.the-type H′.the-laws H′.the-plain H′.the-copy
 
 abbrev pub interruptAnswer : Data
 interruptAnswer = rec I.the-type I′.the-laws I′.the-plain I′.the-copy
+
+abbrev pub portAnswer : Data
+portAnswer = rec T.the-type T′.the-laws T′.the-plain T′.the-copy
 
 abbrev pub markAnswer : Data
 markAnswer = rec M.the-type M′.the-laws M′.the-plain M′.the-copy

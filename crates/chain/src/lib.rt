@@ -1,13 +1,14 @@
-// The calls on a chain of MAX6954: a lent row of records, nearest the controller first. Drivers are counted from 1.
+// The calls on a chain of MAX6954, MAX6955 and MAX6957: a lent row of records, nearest the controller first. Drivers are counted from 1.
 ghost use mathlib.Core.Path.{_≡_};
 ghost use mathlib.Core.List.{[], _∷_};
 ghost use lib.ListN.{length};
-ghost use Rattle.device.specs.PowerUp.{powerUp};
-ghost use Rattle.calls.specs.Calls.{access as accessCall, give, ask, scan, levels as pinLevels, clocks as masterClocks, plane, planeShown, segments, brightness, shown, interrupt, answerMark, lookBack, askChain, plan, planCheck};
+ghost use Rattle.device.specs.PowerUp.{powerUp, powerUp6957};
+ghost use Rattle.calls.specs.Calls.{access as accessCall, give, ask, scan, levels as pinLevels, clocks as masterClocks, plane, planeShown, segments, brightness, shown, interrupt, answerMark, lookBack, ports as portsQuestion, askChain, plan, planCheck};
 ghost use Rattle.calls.specs.Outcome.{outcome};
 ghost use Rattle.redraw.specs.PlanBytes.{bytesNumber, bytesAfter};
 use answers::InterruptAnswer;
 use answers::MarkAnswer;
+use answers::PortAnswer;
 use answers::ShownAnswer;
 use brightness::BrightnessAnswer;
 use device::Device;
@@ -22,6 +23,14 @@ pub extern "C" fn max6954_power_up() -> Device
     ensures { λ r. ⌜ r ≡ powerUp ⌝ }
 {
     Device::new()
+}
+
+// A MAX6957 at power-up.
+#[no_mangle]
+pub extern "C" fn max6957_power_up() -> Device
+    ensures { λ r. ⌜ r ≡ powerUp6957 ⌝ }
+{
+    Device::new_6957()
 }
 
 // Clocks through the chain: the sent bits go in, the answer bits come out, and every driver takes its word.
@@ -130,7 +139,7 @@ pub extern "C" fn max6954_plane_number(
 ) -> u8
     ensures { λ r. ⌜ outcome (ask driver (plane (now (p0 .entry)) (now (p1 .entry)) first last)) (now (chain .entry)) .number ≡ r ⌝ }
 {
-    let own = blink::plane_refusal(p0, p1, first, last);
+    let own = pass::part_refusal(p0, p1, first, last);
     let number = lent::call_refusal(chain, driver, own);
     if number != 0 {
         return answers::number_refused(number, p0, p1, first, last);
@@ -151,7 +160,7 @@ pub extern "C" fn max6954_plane_shown(
 ) -> ShownAnswer
     ensures { λ r. ⌜ outcome (ask driver (planeShown (now (p0 .entry)) (now (p1 .entry)) first last)) (now (chain .entry)) ≡ record { number = r .number; records = now (chain .entry); back = r .plane ∷ [] } ⌝ }
 {
-    let own = blink::plane_refusal(p0, p1, first, last);
+    let own = pass::part_refusal(p0, p1, first, last);
     let number = lent::call_refusal(chain, driver, own);
     if number != 0 {
         return answers::plane_shown_refused(number, p0, p1, first, last);
@@ -171,7 +180,7 @@ pub extern "C" fn max6954_segments(
 ) -> SegmentAnswer
     ensures { λ r. ⌜ outcome (ask driver (segments cathode (now (font14 .entry)) (now (font16 .entry)))) (now (chain .entry)) ≡ record { number = r .number; records = now (chain .entry); back = r .pins } ⌝ }
 {
-    let own = shown_pins::segments_refusal(cathode, font14, font16);
+    let own = pass::segments_refusal(cathode, font14, font16);
     let number = lent::call_refusal(chain, driver, own);
     if number != 0 {
         return answers::segments_refused(number, cathode, font14, font16);
@@ -240,6 +249,20 @@ pub extern "C" fn max6954_answer_mark(chain: &[Device], driver: usize) -> MarkAn
     answers::mark(chain[at])
 }
 
+// What each of P4 to P31 of a MAX6957 shows.
+#[no_mangle]
+pub extern "C" fn max6957_ports(chain: &[Device], driver: usize) -> PortAnswer
+    ensures { λ r. ⌜ outcome (ask driver portsQuestion) (now (chain .entry)) ≡ record { number = r .number; records = now (chain .entry); back = r .ports } ⌝ }
+{
+    let own = pass::ports_refusal();
+    let number = lent::call_refusal(chain, driver, own);
+    if number != 0 {
+        return answers::ports_refused(number);
+    }
+    let at = driver - 1;
+    answers::ports(chain[at])
+}
+
 // The byte of a digit in plane 0 or 1 that one driver would have after a list of words, found by looking back from the last.
 #[no_mangle]
 pub extern "C" fn max6954_look_back(
@@ -266,7 +289,7 @@ pub extern "C" fn max6954_plan(chain: &[Device], wanted: &[u8], list: &mut [u16]
     ensures { λ r. ⌜ outcome (askChain (plan (now (wanted .entry)) (now (list .entry)))) (now (chain .entry)) ≡ record { number = r .number; records = now (chain .entry); back = r .accesses ∷ now (list .exit) } ⌝ }
 {
     let n = chain.len();
-    let early = lent::call_refusal(chain, 1, 0);
+    let early = lent::row_refusal(chain);
     let own = planner::wanted_refusal(early, n, wanted.len());
     let most = redraw::accesses(chain, own, wanted);
     let number = planner::list_refusal(own, n, most, list.len());
@@ -284,7 +307,7 @@ pub extern "C" fn max6954_plan_check(
     ensures { λ r. ⌜ outcome (askChain (planCheck (now (wanted .entry)) (now (list .entry)))) (now (chain .entry)) ≡ record { number = r .number; records = now (chain .entry); back = r .accepted ∷ [] } ⌝ }
 {
     let n = chain.len();
-    let early = lent::call_refusal(chain, 1, 0);
+    let early = lent::row_refusal(chain);
     let number = planner::wanted_refusal(early, n, wanted.len());
     let each = redraw::accepted(chain, number, n, wanted, list);
     planner::check_answer(number, n, list.len(), each)

@@ -4,3 +4,4 @@ pub mod Shift
 pub mod Fitted
 pub mod Sound
 pub mod Both
+pub mod Families

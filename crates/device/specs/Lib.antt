@@ -10,3 +10,5 @@ pub mod FittedByte
 pub mod BothBuses
 pub mod Table15
 pub mod Examples
+pub mod Families
+pub mod BothFamilies

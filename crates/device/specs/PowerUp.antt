@@ -8,6 +8,8 @@ use Rattle.digits.specs.Digits.{eight}
 use Rattle.digits.specs.declared.Planes.{Planes}
 use Rattle.controls.specs.declared.Controls.{Controls}
 use Rattle.controls.specs.declared.Config.{Config}
+use Rattle.port_registers.specs.Ports.{portPowerUp}
+use Rattle.device.specs.Record.{withFamily}
 use Rattle.device.specs.declared.Device.{Device}
 
 -- decode mode 0xFF, global intensity 1/16 (0), scan limit 7, GPIO data 0, port configuration 0x1F, display test 0, digit type 0
@@ -40,7 +42,13 @@ powerUp =
       fitted = 255;
       «answer_mark» = 0;
       command = 0;
+      family = 0;
+      ports = portPowerUp;
     }
+
+-- document 02, request 8: a MAX6957 at power-up. Both power-up records hold both register files at power-up, and differ in the family alone
+abbrev pub powerUp6957 : Device
+powerUp6957 = withFamily powerUp 1
 
 -- a chain of n drivers at power-up
 abbrev pub freshChain : ℕ → List Device

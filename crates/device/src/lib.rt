@@ -1,13 +1,15 @@
-// One MAX6954 by value: its record, the word that it takes, and the other steps that change it.
+// One driver by value: its record, the word that it takes, and the other steps that change it.
 ghost use mathlib.Core.Path.{_≡_};
 ghost use Rattle.words.specs.declared.Word.the-variants.{Write, Read};
-ghost use Rattle.device.specs.Record.{withRegisters, withPins, withShift, withFitted, withMark, withCommand};
-ghost use Rattle.device.specs.PowerUp.{powerUp};
+ghost use Rattle.device.specs.Record.{withRegisters, withPins, withShift, withFitted, withMark, withCommand, withPorts};
+ghost use Rattle.device.specs.PowerUp.{powerUp, powerUp6957};
 ghost use Rattle.device.specs.Sound.{soundOf};
 ghost use Rattle.device.specs.Taken.{answerWord, obeyed, taken};
 ghost use Rattle.device.specs.Steps.{scanned, clocked, shownPlane};
 ghost use Rattle.device.specs.TwoWire.{nextAddress, commanded, received, sentData, sent};
+ghost use Rattle.device.specs.Families.{portsTaken, takes, pinned, interruptOf, portSound, soundRecord};
 ghost use Rattle.device.specs.Soundness.{Soundness};
+ghost use Rattle.device.specs.BothFamilies.{BothFamilies};
 ghost use Rattle.device.specs.ShiftWord.{ShiftWord};
 ghost use Rattle.device.specs.FittedByte.{FittedByte};
 ghost use Rattle.device.specs.BothBuses.{BothBuses};
@@ -17,6 +19,7 @@ use controls::Config;
 use controls::Controls;
 use digits::Planes;
 use keys::Keys;
+use port_registers::PortRegisters;
 use registers::Registers;
 use words::Plane;
 use words::Register;
@@ -33,46 +36,70 @@ pub struct Device {
     pub answer_mark: u8,
     // The command address of the two-wire bus, seven bits.
     pub command: u8,
+    // 0: a MAX6954 or MAX6955, whose registers are above. 1: a MAX6957, whose registers are below. Others are refused.
+    pub family: u8,
+    pub ports: PortRegisters,
 }
 
 impl Device {
     // Table 15; digits 0 to 7 hold 0x20 in both planes.
-    pub const POWER_UP: Device = Device {
-        registers: Registers {
-            controls: Controls {
-                decode: 255,
-                global: 0,
-                limit: 7,
-                gpio: 0,
-                ports: 31,
-                test: 0,
-                types: 0,
-            },
-            config: Config {
-                i: 0,
-                e: 0,
-                b: 0,
-                s: 0,
-            },
-            intensities: [0; 8],
-            keys: Keys::RELEASED,
-            planes: Planes {
-                p0: [32, 32, 32, 32, 32, 32, 32, 32, 0, 0, 0, 0, 0, 0, 0, 0],
-                p1: [32, 32, 32, 32, 32, 32, 32, 32, 0, 0, 0, 0, 0, 0, 0, 0],
-            },
-            pins: 0,
-            blink: 0,
+    const REGISTERS: Registers = Registers {
+        controls: Controls {
+            decode: 255,
+            global: 0,
+            limit: 7,
+            gpio: 0,
+            ports: 31,
+            test: 0,
+            types: 0,
         },
+        config: Config {
+            i: 0,
+            e: 0,
+            b: 0,
+            s: 0,
+        },
+        intensities: [0; 8],
+        keys: Keys::RELEASED,
+        planes: Planes {
+            p0: [32, 32, 32, 32, 32, 32, 32, 32, 0, 0, 0, 0, 0, 0, 0, 0],
+            p1: [32, 32, 32, 32, 32, 32, 32, 32, 0, 0, 0, 0, 0, 0, 0, 0],
+        },
+        pins: 0,
+        blink: 0,
+    };
+
+    pub const POWER_UP: Device = Device {
+        registers: Device::REGISTERS,
         shift: 0,
         fitted: 255,
         answer_mark: 0,
         command: 0,
+        family: 0,
+        ports: PortRegisters::POWER_UP,
+    };
+
+    // A MAX6957 at power-up; it differs in the family alone.
+    pub const MAX6957_POWER_UP: Device = Device {
+        registers: Device::REGISTERS,
+        shift: 0,
+        fitted: 255,
+        answer_mark: 0,
+        command: 0,
+        family: 1,
+        ports: PortRegisters::POWER_UP,
     };
 
     pub fn new() -> Device
         ensures { λ r. ⌜ r ≡ powerUp ⌝ }
     {
         Device::POWER_UP
+    }
+
+    pub fn new_6957() -> Device
+        ensures { λ r. ⌜ r ≡ powerUp6957 ⌝ }
+    {
+        Device::MAX6957_POWER_UP
     }
 
     // The power-up record of a driver whose cathodes are fitted as given.
@@ -118,6 +145,13 @@ impl Device {
         self
     }
 
+    fn with_ports(mut self, ports: PortRegisters) -> Device
+        ensures { λ r. ⌜ r ≡ withPorts self ports ⌝ }
+    {
+        self.ports = ports;
+        self
+    }
+
     // A write word obeyed.
     fn written(self, register: Register, v: u8) -> Device
         ensures { λ r. ⌜ r ≡ obeyed self (Write register v) ⌝ }
@@ -139,8 +173,8 @@ impl Device {
         answer.with_mark(1)
     }
 
-    // A word taken: it becomes the shift word, and is obeyed.
-    pub fn taken(self, word: u16) -> Device
+    // A word taken by a driver of the old family: it becomes the shift word, and is obeyed.
+    fn old_taken(self, word: u16) -> Device
         ensures { λ r. ⌜ r ≡ taken self word ⌝ }
     {
         let loaded = self.with_shift(word);
@@ -148,6 +182,32 @@ impl Device {
             Word::Write(register, v) => loaded.written(register, v),
             Word::Read(register) => loaded.answered(register),
         }
+    }
+
+    // And by a MAX6957.
+    fn ports_taken(self, word: u16) -> Device
+        ensures { λ r. ⌜ r ≡ portsTaken self word ⌝ }
+    {
+        let old = self.ports;
+        let v = old.read_data((word / 256 % 128) as u8);
+        let new = old.taken(word);
+        let after = self.with_ports(new);
+        if word / 32768 % 2 == 1 {
+            let answer = after.with_shift(answer_word(word, v));
+            return answer.with_mark(1);
+        }
+        let left = after.with_shift(word);
+        left.with_mark(0)
+    }
+
+    // By either.
+    pub fn taken(self, word: u16) -> Device
+        ensures { λ r. ⌜ r ≡ takes self word ⌝ }
+    {
+        if self.family == 1 {
+            return self.ports_taken(word);
+        }
+        self.old_taken(word)
     }
 
     // A key scan: the closed keys of groups A to D.
@@ -161,13 +221,34 @@ impl Device {
         self.with_registers(registers)
     }
 
-    // Pin levels given.
-    pub fn with_pins(self, levels: u32) -> Device
+    // Pin levels given to a driver of the old family.
+    fn old_with_pins(self, levels: u32) -> Device
         ensures { λ r. ⌜ r ≡ withPins self levels ⌝ }
     {
         let mut registers = self.registers;
         registers.pins = levels;
         self.with_registers(registers)
+    }
+
+    // And to one of either.
+    pub fn with_pins(self, levels: u32) -> Device
+        ensures { λ r. ⌜ r ≡ pinned self levels ⌝ }
+    {
+        if self.family == 1 {
+            let old = self.ports;
+            return self.with_ports(old.with_pins(levels));
+        }
+        self.old_with_pins(levels)
+    }
+
+    // Whether the interrupt is raised.
+    pub fn interrupt(self) -> u8
+        ensures { λ r. ⌜ r ≡ interruptOf self ⌝ }
+    {
+        if self.family == 1 {
+            return self.ports.transition.interrupt;
+        }
+        self.registers.keys.interrupt
     }
 
     // Master clocks given.
@@ -228,9 +309,9 @@ impl Device {
         )
     }
 
-    // Whether every field fits its register's width, the blink count is below 4,000,000, the answer mark is 0 or 1
+    // Whether every field of the old family fits its register's width, the blink count is below 4,000,000, the answer mark is 0 or 1
     // and the command address is below 128.
-    pub fn sound(self) -> bool
+    fn old_sound(self) -> bool
         ensures { λ r. ⌜ r ≡ soundOf self ⌝ }
     {
         let x = self.registers;
@@ -244,6 +325,27 @@ impl Device {
             & (x.pins < 32)
             & (x.blink < 4000000);
         registers & (self.answer_mark < 2) & (self.command < 128)
+    }
+
+    // Whether every field of a MAX6957 does.
+    pub fn ports_sound(self) -> bool
+        ensures { λ r. ⌜ r ≡ portSound self ⌝ }
+    {
+        let ports = self.ports;
+        ports.sound() & (self.answer_mark < 2)
+    }
+
+    // Whether the fields of the record's own family do.
+    pub fn sound(self) -> bool
+        ensures { λ r. ⌜ r ≡ soundRecord self ⌝ }
+    {
+        if self.family == 0 {
+            return self.old_sound();
+        }
+        if self.family == 1 {
+            return self.ports_sound();
+        }
+        true
     }
 }
 
@@ -284,6 +386,11 @@ pub fn both_buses()
 // A theorem: the power-up record is what Table 15 says.
 pub fn table_15()
     ensures { λ _. ⌜ Table15 ⌝ }
+{}
+
+// A theorem: both families: soundness, the word taken, and that nothing changes the family or the other family's registers.
+pub fn both_families()
+    ensures { λ _. ⌜ BothFamilies ⌝ }
 {}
 
 // A theorem: the bench examples of one driver.

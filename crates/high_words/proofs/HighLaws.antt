@@ -1,11 +1,13 @@
 -- A word with an address of 0x20 or above, taken, leaves what `highTaken` says.
 -- Assumes nothing.
-use Rattle.ground.proofs.Names.{ℕ, _/_, _%_, _^_, _≤_, _<_, decLt, ℕ-discrete, arith, true, false, _≡_, eqb, ltb, set-getD, ltb-true, lt-ltb, le-ltb, eq-eqb, ne-eqb, bit}
+use Rattle.ground.proofs.Names.{ℕ, _/_, _%_, _^_, _≤_, _<_, decLt, ℕ-discrete, arith, true, false, _≡_, _∙_, eqb, eqb-true, and-left, and-right, ltb, set-getD, ltb-true, lt-ltb, le-ltb, eq-eqb, ne-eqb, bit}
 use Rattle.words.specs.Addresses.{highRegister, alikeAt, wordOf}
 use Rattle.words.specs.declared.Word.the-variants.{Write, Read}
 use Rattle.device.specs.Taken.{taken}
+use Rattle.device.specs.Families.{takes}
+use Rattle.device.proofs.Families.{old-takes}
 use Rattle.device.specs.declared.Device.{Device}
-use Rattle.high_words.specs.HighWords.{isHigh, highTaken}
+use Rattle.high_words.specs.HighWords.{isHigh, inPlace, highTaken}
 
 module _ (w : ℕ) (fits : w < 65536) (high : isHigh w ≡ true) where
   two : 2 ≤ w / 4096 % 8
@@ -62,3 +64,9 @@ module _ (w : ℕ) (fits : w < 65536) (high : isHigh w ≡ true) where
       by-write : Dec (w / 4096 < 8) → taken d w ≡ highTaken d w
       by-write (yes l) = by-write-row l (ℕ-discrete (w / 4096) 2) (ℕ-discrete (w / 4096) 4) (ℕ-discrete (w / 4096) 6)
       by-write (no n) = let l : 8 ≤ w / 4096 = omega (arith, n) in by-read-row l (ℕ-discrete (w / 4096) 10) (ℕ-discrete (w / 4096) 12) (ℕ-discrete (w / 4096) 14)
+
+-- obeyed where it lies by a driver of the old family
+pub in-place : (w : ℕ) → w < 65536 → (d : Device) → inPlace w (d .family) ≡ true → takes d w ≡ highTaken d w
+in-place w fits d e =
+    let z : d .family ≡ 0 = eqb-true (d .family) 0 (and-right (isHigh w) (eqb (d .family) 0) e) in
+    old-takes d w (rw z) ∙ high-taken w fits (and-left (isHigh w) (eqb (d .family) 0) e) d

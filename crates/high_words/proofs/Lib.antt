@@ -1,1 +1,2 @@
 pub mod HighLaws
+pub mod LowLaws

@@ -1,7 +1,7 @@
 -- Auxiliary: what a word with an address of 0x20 or above changes where it lies, a digit's byte in each plane, the shift word and the answer mark. `taken` is what is believed.
 -- Assumes nothing.
 use Prim.Native.Nat.{ℕ, _+_, _*_, _/_, _%_}
-use mathlib.Core.Bool.{Bool, _||_}
+use mathlib.Core.Bool.{Bool, _&&_, _||_}
 use lib.Dec.{eqb, ltb}
 use lib.ListN.{getD, set}
 use Rattle.ground.specs.Choice.{if}
@@ -12,6 +12,10 @@ use Rattle.device.specs.declared.Device.{Device}
 -- a word's address is 0x20 or above
 abbrev pub isHigh : ℕ → Bool
 isHigh w = ltb 1 (w / 4096 % 8)
+
+-- such a word is for a driver of the old family: it is obeyed where it lies
+abbrev pub inPlace : ℕ → ℕ → Bool
+inPlace w family = isHigh w && eqb family 0
 
 -- the digit that it names
 abbrev pub digitOf : ℕ → ℕ
@@ -54,4 +58,6 @@ highTaken d w =
       fitted = d .fitted;
       «answer_mark» = newMark w;
       command = d .command;
+      family = d .family;
+      ports = d .ports;
     }

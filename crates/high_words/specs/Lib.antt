@@ -1,1 +1,2 @@
 pub mod HighWords
+pub mod LowWords

@@ -1,12 +1,25 @@
-// What a word with an address of 0x20 or above changes, by value: a digit's byte in each plane, the shift word and the answer mark.
+// What a word changes where its record lies, by value: with an address of 0x20 or above a digit's byte in each plane, else the registers; the shift word and the answer mark.
 ghost use mathlib.Core.Path.{_≡_};
-ghost use Rattle.high_words.specs.HighWords.{isHigh, digitOf, newP0, newP1, digitRead, newShift, newMark};
+ghost use Rattle.high_words.specs.HighWords.{isHigh, inPlace, digitOf, newP0, newP1, digitRead, newShift, newMark};
+ghost use Rattle.high_words.specs.LowWords.{isPorts, lowRegisters, lowShift};
+ghost use Rattle.device.specs.Taken.{answerWord};
+ghost use Rattle.device.specs.Families.{portsTaken};
+use device::Device;
+use registers::Registers;
+use words::Word;
 
 // A word's address is 0x20 or above.
 pub fn is_high(word: u16) -> bool
     ensures { λ r. ⌜ r ≡ isHigh word ⌝ }
 {
     1 < word / 4096 % 8
+}
+
+// Such a word is for a driver of the old family.
+pub fn in_place(word: u16, family: u8) -> bool
+    ensures { λ r. ⌜ r ≡ inPlace word family ⌝ }
+{
+    (1 < word / 4096 % 8) & (family == 0)
 }
 
 // The digit that such a word names.
@@ -66,4 +79,57 @@ pub fn new_mark(word: u16) -> u8
 {
     let row = word / 4096;
     if row < 8 { 0 } else { 1 }
+}
+
+// A driver is a MAX6957.
+pub fn is_ports(family: u8) -> bool
+    ensures { λ r. ⌜ r ≡ isPorts family ⌝ }
+{
+    family == 1
+}
+
+// The registers of a driver of the old family after any word.
+pub fn low_registers(old: Registers, word: u16) -> Registers
+    ensures { λ r. ⌜ r ≡ lowRegisters old word ⌝ }
+{
+    match words::decode(word) {
+        Word::Write(register, v) => old.written(register, v),
+        Word::Read(register) => old.read(register),
+    }
+}
+
+// The data that a read word finds in them, set into the word.
+fn answer(old: u16, v: u8) -> u16
+    ensures { λ r. ⌜ r ≡ answerWord old v ⌝ }
+{
+    old / 256 * 256 + v as u16
+}
+
+// The shift word after any word, by its registers before.
+pub fn low_shift(old: Registers, word: u16) -> u16
+    ensures { λ r. ⌜ r ≡ lowShift old word ⌝ }
+{
+    if word / 32768 % 2 == 1 {
+        let register = words::read_at((word / 256 % 128) as u8);
+        return answer(word, old.read_data(register));
+    }
+    word
+}
+
+// The record of a MAX6957 after any word.
+pub fn ports_taken(mut d: Device, word: u16) -> Device
+    ensures { λ r. ⌜ r ≡ portsTaken d word ⌝ }
+{
+    let old = d.ports;
+    let v = old.read_data((word / 256 % 128) as u8);
+    let new = old.taken(word);
+    d.ports = new;
+    if word / 32768 % 2 == 1 {
+        d.shift = answer(word, v);
+        d.answer_mark = 1;
+        return d;
+    }
+    d.shift = word;
+    d.answer_mark = 0;
+    d
 }

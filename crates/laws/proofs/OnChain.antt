@@ -4,6 +4,8 @@ use Rattle.ground.proofs.Names.{ℕ, _*_, _≤_, Bool, true, _&&_, List, [], _�
 use mathlib.Core.List.{map-append}
 use Rattle.device.specs.Table15.{afterWords}
 use Rattle.device.specs.Taken.{taken}
+use Rattle.device.specs.Families.{families}
+use Rattle.device.proofs.Families.{old-takes, takes-family}
 use Rattle.device.specs.declared.Device.{Device}
 use Rattle.plans.specs.Words.{digitWrite}
 use Rattle.plans.proofs.Act.{or-cases}
@@ -16,28 +18,30 @@ use Rattle.laws.specs.DriverLaws.{registersAfter}
 use Rattle.laws.specs.ChainLaws.{accessesFor, allAccepted, registersAt, Apart, ChainLaws}
 use Rattle.laws.proofs.Laws.{either-order, both-planes, waits, clear-alone}
 
-all-full : (n : ℕ) (room : List ℕ) (sents : List (List ℕ)) → AllFull n (accessesFor n room sents)
+all-full : (n : ℕ) (fs room : List ℕ) (sents : List (List ℕ)) → AllFull n fs (accessesFor n room sents)
 unfolding AllFull
-all-full n room [] = tt
-all-full n room (sent ∷ sents) = ((λ e. refl), all-full n room sents)
+all-full n fs room [] = tt
+all-full n fs room (sent ∷ sents) = ((λ e. refl), all-full n fs room sents)
 
 -- the lone driver takes its words
-lone-words : (n i : ℕ) (room : List ℕ) (sents : List (List ℕ)) (d : Device) → allAccepted n room sents ≡ true
-    → lone n i (accessesFor n room sents) d ≡ afterWords d (map (ownWord n i) sents)
+lone-words : (n : ℕ) (fs : List ℕ) (i : ℕ) (room : List ℕ) (sents : List (List ℕ)) (d : Device) → d .family ≡ 0 → allAccepted n fs room sents ≡ true
+    → lone n fs i (accessesFor n room sents) d ≡ afterWords d (map (ownWord n i) sents)
 unfolding lone allAccepted
-lone-words n i room [] d a = refl
-lone-words n i room (sent ∷ sents) d a =
+lone-words n fs i room [] d z a = refl
+lone-words n fs i room (sent ∷ sents) d z a =
     let q = access (16 * n) sent room in
-    ap (λ (b : Bool). lone n i (accessesFor n room sents) (if b (loneStep n i q d) d)) (and-left (accepted n q) (allAccepted n room sents) a)
-    ∙ lone-words n i room sents (taken d (ownWord n i sent)) (and-right (accepted n q) (allAccepted n room sents) a)
+    let old = old-takes d (ownWord n i sent) (rw z) in
+    ap (λ (b : Bool). lone n fs i (accessesFor n room sents) (if b (loneStep n i q d) d)) (and-left (accepted n fs q) (allAccepted n fs room sents) a)
+    ∙ ap (lone n fs i (accessesFor n room sents)) old
+    ∙ lone-words n fs i room sents (taken d (ownWord n i sent)) (ap (λ (x : Device). x .family) (sym old) ∙ takes-family d (ownWord n i sent) ∙ z) (and-right (accepted n fs q) (allAccepted n fs room sents) a)
 
 -- so does a driver of a chain
-own-words : (ds : List Device) (room : List ℕ) (sents : List (List ℕ)) → allSound ds ≡ true → allAccepted (length ds) room sents ≡ true → (i : ℕ) → 1 ≤ i → i ≤ length ds
+own-words : (ds : List Device) (room : List ℕ) (sents : List (List ℕ)) → allSound ds ≡ true → allAccepted (length ds) (families ds) room sents ≡ true → (i : ℕ) → 1 ≤ i → i ≤ length ds → recordOf ds i .family ≡ 0
     → registersAt ds room sents i ≡ registersAfter (recordOf ds i) (map (ownWord (length ds) i) sents)
-own-words ds room sents s a i h g =
+own-words ds room sents s a i h g z =
     ap (λ (d : Device). d .registers)
-    (isolated (accessesFor (length ds) room sents) ds s (all-full (length ds) room sents) i h g .same-record
-    ∙ lone-words (length ds) i room sents (recordOf ds i) a)
+    (isolated (accessesFor (length ds) room sents) ds s (all-full (length ds) (families ds) room sents) i h g .same-record
+    ∙ lone-words (length ds) (families ds) i room sents (recordOf ds i) z a)
 
 -- words that draw, in either order
 apart : (d : Device) (w v : ℕ) → Apart w v → registersAfter d (w ∷ v ∷ []) ≡ registersAfter d (v ∷ w ∷ [])
@@ -47,45 +51,45 @@ apart d w v a =
     (λ z. or-cases (digitWrite v) (eqb v 0) (a .second) (λ h. rw (eqb-true w 0 z) (sym (waits d v h))) (λ e. rw (eqb-true w 0 z, eqb-true v 0 e)))
 
 -- accepted in another order, or some of them
-accepted-turned : (n : ℕ) (room a b : List ℕ) → allAccepted n room (a ∷ b ∷ []) ≡ true → allAccepted n room (b ∷ a ∷ []) ≡ true
+accepted-turned : (n : ℕ) (fs room a b : List ℕ) → allAccepted n fs room (a ∷ b ∷ []) ≡ true → allAccepted n fs room (b ∷ a ∷ []) ≡ true
 unfolding allAccepted
-accepted-turned n room a b h =
-    let x = accepted n (access (16 * n) a room) in
-    let y = accepted n (access (16 * n) b room) in
+accepted-turned n fs room a b h =
+    let x = accepted n fs (access (16 * n) a room) in
+    let y = accepted n fs (access (16 * n) b room) in
     rw (and-left y true (and-right x (y && true) h), and-left x (y && true) h)
 
-accepted-first : (n : ℕ) (room a : List ℕ) (sents : List (List ℕ)) → allAccepted n room (a ∷ sents) ≡ true → (allAccepted n room (a ∷ []) ≡ true) × (allAccepted n room sents ≡ true)
+accepted-first : (n : ℕ) (fs room a : List ℕ) (sents : List (List ℕ)) → allAccepted n fs room (a ∷ sents) ≡ true → (allAccepted n fs room (a ∷ []) ≡ true) × (allAccepted n fs room sents ≡ true)
 unfolding allAccepted
-accepted-first n room a sents h = (rw (and-left (accepted n (access (16 * n) a room)) _ h), and-right (accepted n (access (16 * n) a room)) _ h)
+accepted-first n fs room a sents h = (rw (and-left (accepted n fs (access (16 * n) a room)) _ h), and-right (accepted n fs (access (16 * n) a room)) _ h)
 
-accepted-last : (n : ℕ) (room a : List ℕ) (sents : List (List ℕ)) → allAccepted n room sents ≡ true → allAccepted n room (a ∷ []) ≡ true → allAccepted n room (sents ++ a ∷ []) ≡ true
+accepted-last : (n : ℕ) (fs room a : List ℕ) (sents : List (List ℕ)) → allAccepted n fs room sents ≡ true → allAccepted n fs room (a ∷ []) ≡ true → allAccepted n fs room (sents ++ a ∷ []) ≡ true
 unfolding allAccepted
-accepted-last n room a [] h g = g
-accepted-last n room a (b ∷ sents) h g =
+accepted-last n fs room a [] h g = g
+accepted-last n fs room a (b ∷ sents) h g =
     rw (
-      and-left (accepted n (access (16 * n) b room)) _ h,
-      accepted-last n room a sents (and-right (accepted n (access (16 * n) b room)) _ h) g,
+      and-left (accepted n fs (access (16 * n) b room)) _ h,
+      accepted-last n fs room a sents (and-right (accepted n fs (access (16 * n) b room)) _ h) g,
     )
 
 pub chain-laws : ChainLaws
 chain-laws =
     record {
-      either-order = λ ds room a b s h i l g p.
-          own-words ds room (a ∷ b ∷ []) s h i l g
+      either-order = λ ds room a b s h i l g z p.
+          own-words ds room (a ∷ b ∷ []) s h i l g z
           ∙ apart (recordOf ds i) (ownWord (length ds) i a) (ownWord (length ds) i b) p
-          ∙ sym (own-words ds room (b ∷ a ∷ []) s (accepted-turned (length ds) room a b h) i l g);
-      both-planes = λ ds room both first second s h i l g k v hk hv e e0 e1.
+          ∙ sym (own-words ds room (b ∷ a ∷ []) s (accepted-turned (length ds) (families ds) room a b h) i l g z);
+      both-planes = λ ds room both first second s h i l g z k v hk hv e e0 e1.
           let n = length ds in
-          let t = accepted-first n room both (first ∷ second ∷ []) h in
-          own-words ds room (both ∷ []) s (t .0) i l g
+          let t = accepted-first n (families ds) room both (first ∷ second ∷ []) h in
+          own-words ds room (both ∷ []) s (t .0) i l g z
           ∙ ap (λ (w : ℕ). registersAfter (recordOf ds i) (w ∷ [])) e
           ∙ both-planes (recordOf ds i) k v hk hv
-          ∙ sym (own-words ds room (first ∷ second ∷ []) s (t .1) i l g ∙ ap₂ (λ (w x : ℕ). registersAfter (recordOf ds i) (w ∷ x ∷ [])) e0 e1);
-      clear-alone = λ ds room sents clear s h i l g d c.
+          ∙ sym (own-words ds room (first ∷ second ∷ []) s (t .1) i l g z ∙ ap₂ (λ (w x : ℕ). registersAfter (recordOf ds i) (w ∷ x ∷ [])) e0 e1);
+      clear-alone = λ ds room sents clear s h i l g z d c.
           let n = length ds in
-          let t = accepted-first n room clear sents h in
-          own-words ds room (sents ++ clear ∷ []) s (accepted-last n room clear sents (t .1) (t .0)) i l g
+          let t = accepted-first n (families ds) room clear sents h in
+          own-words ds room (sents ++ clear ∷ []) s (accepted-last n (families ds) room clear sents (t .1) (t .0)) i l g z
           ∙ ap (registersAfter (recordOf ds i)) (map-append (ownWord n i) sents (clear ∷ []))
           ∙ clear-alone (recordOf ds i) (map (ownWord n i) sents) (ownWord n i clear) d c
-          ∙ sym (own-words ds room (clear ∷ []) s (t .0) i l g);
+          ∙ sym (own-words ds room (clear ∷ []) s (t .0) i l g z);
     }

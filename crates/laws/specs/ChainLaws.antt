@@ -6,6 +6,7 @@ use mathlib.Core.List.{List, [], _∷_, _++_, map}
 use mathlib.Core.Path.{_≡_}
 use lib.ListN.{length}
 use Rattle.registers.specs.declared.Registers.{Registers}
+use Rattle.device.specs.Families.{families}
 use Rattle.device.specs.declared.Device.{Device}
 use Rattle.plans.specs.Words.{digitWrite, every}
 use Rattle.plans.specs.Plan.{put0, put1, putBoth}
@@ -21,9 +22,9 @@ abbrev pub accessesFor : ℕ → List ℕ → List (List ℕ) → List Call
 accessesFor n room sents = map (λ sent. access (16 * n) sent room) sents
 
 -- all are accepted
-unfoldable pub allAccepted : ℕ → List ℕ → List (List ℕ) → Bool
-allAccepted n room [] = true
-allAccepted n room (sent ∷ sents) = accepted n (access (16 * n) sent room) && allAccepted n room sents
+unfoldable pub allAccepted : ℕ → List ℕ → List ℕ → List (List ℕ) → Bool
+allAccepted n fs room [] = true
+allAccepted n fs room (sent ∷ sents) = accepted n fs (access (16 * n) sent room) && allAccepted n fs room sents
 
 -- the registers and planes of driver i after them
 abbrev pub registersAt : List Device → List ℕ → List (List ℕ) → ℕ → Registers
@@ -35,19 +36,19 @@ pub record Apart (w v : ℕ) : Type 0 where
   pub second : drawing v ≡ true
   pub digits : digitWrite w ≡ true → digitWrite v ≡ true → digitOf w ≡ digitOf v → ⊥
 
--- for every sound chain and every driver of it
+-- for every sound chain and every driver of the old family in it
 pub record ChainLaws : Type 0 where
   -- two accesses that send no driver the same digit, in either order
-  pub either-order : (ds : List Device) (room a b : List ℕ) → allSound ds ≡ true → allAccepted (length ds) room (a ∷ b ∷ []) ≡ true
-      → (i : ℕ) → 1 ≤ i → i ≤ length ds → Apart (ownWord (length ds) i a) (ownWord (length ds) i b)
+  pub either-order : (ds : List Device) (room a b : List ℕ) → allSound ds ≡ true → allAccepted (length ds) (families ds) room (a ∷ b ∷ []) ≡ true
+      → (i : ℕ) → 1 ≤ i → i ≤ length ds → recordOf ds i .family ≡ 0 → Apart (ownWord (length ds) i a) (ownWord (length ds) i b)
       → registersAt ds room (a ∷ b ∷ []) i ≡ registersAt ds room (b ∷ a ∷ []) i
   -- an access that writes both planes of a digit, and two that write P0 and then P1
-  pub both-planes : (ds : List Device) (room both first second : List ℕ) → allSound ds ≡ true → allAccepted (length ds) room (both ∷ first ∷ second ∷ []) ≡ true
-      → (i : ℕ) → 1 ≤ i → i ≤ length ds → (k v : ℕ) → k < 16 → v < 256
+  pub both-planes : (ds : List Device) (room both first second : List ℕ) → allSound ds ≡ true → allAccepted (length ds) (families ds) room (both ∷ first ∷ second ∷ []) ≡ true
+      → (i : ℕ) → 1 ≤ i → i ≤ length ds → recordOf ds i .family ≡ 0 → (k v : ℕ) → k < 16 → v < 256
       → ownWord (length ds) i both ≡ putBoth k v → ownWord (length ds) i first ≡ put0 k v → ownWord (length ds) i second ≡ put1 k v
       → registersAt ds room (both ∷ []) i ≡ registersAt ds room (first ∷ second ∷ []) i
   -- an access that clears, after any accesses of digit writes, and that access alone
   pub clear-alone : (ds : List Device) (room : List ℕ) (sents : List (List ℕ)) (clear : List ℕ) → allSound ds ≡ true
-      → allAccepted (length ds) room (clear ∷ sents) ≡ true
-      → (i : ℕ) → 1 ≤ i → i ≤ length ds → every drawing (map (ownWord (length ds) i) sents) ≡ true → clearing (ownWord (length ds) i clear) ≡ true
+      → allAccepted (length ds) (families ds) room (clear ∷ sents) ≡ true
+      → (i : ℕ) → 1 ≤ i → i ≤ length ds → recordOf ds i .family ≡ 0 → every drawing (map (ownWord (length ds) i) sents) ≡ true → clearing (ownWord (length ds) i clear) ≡ true
       → registersAt ds room (sents ++ clear ∷ []) i ≡ registersAt ds room (clear ∷ []) i

@@ -11,7 +11,7 @@ use Rattle.wire.specs.Bits.{unpack, wordAt}
 use Rattle.wire.specs.Wire.{string}
 use Rattle.device.specs.PowerUp.{powerUp}
 use Rattle.device.specs.Record.{withShift, withMark}
-use Rattle.device.specs.Taken.{taken}
+use Rattle.device.specs.Families.{takes, families}
 use Rattle.device.specs.declared.Device.{Device}
 use Rattle.calls.specs.Calls.{Call, access}
 use Rattle.calls.specs.CallRefusals.{allSound}
@@ -22,9 +22,9 @@ use Rattle.calls.specs.Isolation.{accepted}
 use Rattle.calls.specs.NextAccess.{wordTaken}
 use Rattle.calls.specs.AnswerMark.{marks}
 
--- an accepted access of at least 16 clocks for each of n drivers
-pub record Whole (n c : ℕ) (sent room : List ℕ) : Type 0 where
-  pub served : accepted n (access c sent room) ≡ true
+-- an accepted access of at least 16 clocks for each of n drivers of these families
+pub record Whole (n : ℕ) (fs : List ℕ) (c : ℕ) (sent room : List ℕ) : Type 0 where
+  pub served : accepted n fs (access c sent room) ≡ true
   pub clocks : 16 * n ≤ c
 
 -- driver i's word among the last 16n of the c bits sent: the first is driver n's, the last driver 1's
@@ -49,28 +49,28 @@ shiftCleared d = withMark (withShift d 0) 0
 -- for every chain of sound records
 pub record SlippedAccess : Type 0 where
   -- "gives every driver a word fixed by the last 16n bits sent alone, whatever accesses came before"
-  pub word-taken : (ds : List Device) (qs : List Call) (c : ℕ) (sent room : List ℕ) → allSound ds ≡ true → Whole (length ds) c sent room
+  pub word-taken : (ds : List Device) (qs : List Call) (c : ℕ) (sent room : List ℕ) → allSound ds ≡ true → Whole (length ds) (families ds) c sent room
       → (i : ℕ) → 1 ≤ i → i ≤ length ds
-      → recordOf (afterAll (qs ++ access c sent room ∷ []) ds) i ≡ taken (recordOf (afterAll qs ds) i) (lastWord (length ds) i c sent)
+      → recordOf (afterAll (qs ++ access c sent room ∷ []) ds) i ≡ takes (recordOf (afterAll qs ds) i) (lastWord (length ds) i c sent)
   -- so on two chains of as many drivers, after any calls, driver i takes the same word
-  pub same-word : (ds es : List Device) (ps qs : List Call) (c : ℕ) (sent room : List ℕ) → length ds ≡ length es → Whole (length ds) c sent room
+  pub same-word : (ds es : List Device) (ps qs : List Call) (c : ℕ) (sent room : List ℕ) → length ds ≡ length es → Whole (length ds) (families ds) c sent room
       → (i : ℕ) → 1 ≤ i → i ≤ length ds
       → wordTaken (afterAll ps ds) c sent i ≡ wordTaken (afterAll qs es) c sent i
   -- "chains alike but for shift words and answer marks are wholly alike after the same such access"
   pub wholly-alike : (ds es : List Device) (c : ℕ) (sent room : List ℕ) → allSound ds ≡ true → allSound es ≡ true → AllAlike ds es
-      → Whole (length ds) c sent room
+      → Whole (length ds) (families ds) c sent room
       → after (access c sent room) ds ≡ after (access c sent room) es
   -- "its answers differ at most in their first 16n bits": all later bits of the lent bytes are equal
-  pub later-bits : (ds es : List Device) (c : ℕ) (sent room : List ℕ) → allSound ds ≡ true → allSound es ≡ true → length ds ≡ length es
-      → Whole (length ds) c sent room
+  pub later-bits : (ds es : List Device) (c : ℕ) (sent room : List ℕ) → allSound ds ≡ true → allSound es ≡ true → families ds ≡ families es
+      → Whole (length ds) (families ds) c sent room
       → drop (16 * length ds) (unpack (reply (access c sent room) ds)) ≡ drop (16 * length ds) (unpack (reply (access c sent room) es))
   -- those first 16n bits are the chain's old string, and the lent bytes after the answer stay
-  pub first-bits : (ds : List Device) (c : ℕ) (sent room : List ℕ) → allSound ds ≡ true → Whole (length ds) c sent room
+  pub first-bits : (ds : List Device) (c : ℕ) (sent room : List ℕ) → allSound ds ≡ true → Whole (length ds) (families ds) c sent room
       → take (16 * length ds) (unpack (reply (access c sent room) ds)) ≡ string (shiftWords ds)
-  pub bytes-after : (ds : List Device) (c : ℕ) (sent room : List ℕ) → allSound ds ≡ true → Whole (length ds) c sent room
+  pub bytes-after : (ds : List Device) (c : ℕ) (sent room : List ℕ) → allSound ds ≡ true → Whole (length ds) (families ds) c sent room
       → drop (bytesFor c) (reply (access c sent room) ds) ≡ drop (bytesFor c) room
   -- so a chain after such an access is the chain with shift words 0 and marks cleared, after the same access
-  pub as-cleared : (ds : List Device) (c : ℕ) (sent room : List ℕ) → allSound ds ≡ true → Whole (length ds) c sent room
+  pub as-cleared : (ds : List Device) (c : ℕ) (sent room : List ℕ) → allSound ds ≡ true → Whole (length ds) (families ds) c sent room
       → after (access c sent room) ds ≡ after (access c sent room) (map shiftCleared ds)
   pub cleared-alike : (ds : List Device) → AllAlike ds (map shiftCleared ds)
   pub cleared-words : (ds : List Device) → shiftWords (map shiftCleared ds) ≡ replicate (length ds) 0

@@ -8,15 +8,21 @@ use Rattle.device.specs.declared.Device.{Device}
 use Rattle.registers.proofs.Registers as G
 use Rattle.registers.proofs.Registers.Laws as G′
 use Rattle.registers.specs.Record.{withPlanes}
+use Rattle.registers.specs.declared.Registers.{Registers}
+use Rattle.device.specs.Record.{withRegisters, withShift, withMark}
 use Rattle.digits.proofs.Planes as Q
 use Rattle.digits.proofs.Planes.Laws as Q′
 use Rattle.device.proofs.Device as D
 use Rattle.device.proofs.Device.Laws as D′
-use Rattle.pass.proofs.Widths as W
-use Rattle.pass.proofs.Widths.Laws as W′
+use Rattle.pass.proofs.Seen as W
+use Rattle.pass.proofs.Seen.Laws as W′
+use Rattle.pass.proofs.Widths as Y
+use Rattle.pass.proofs.Widths.Laws as Y′
+use Rattle.pass.proofs.Own as O
+use Rattle.pass.proofs.Own.Laws as O′
 use Rattle.lent.proofs.Walk.{Data, num, rec}
 use Rattle.lent.proofs.Elements.{Sized}
-use Rattle.lent.proofs.Places.{same, vals, is-set}
+use Rattle.lent.proofs.Places.{same, vals, is-set, unraw}
 
 abbrev pub size : Data
 size = num w64
@@ -33,18 +39,28 @@ word = num w32
 abbrev pub device : Data
 device = rec D.the-type D′.the-laws D′.the-plain D′.the-copy
 
+abbrev pub registers : Data
+registers = rec G.the-type G′.the-laws G′.the-plain G′.the-copy
+
 pub half-sized : Sized half 2
 half-sized = record { one = refl; size = refl; small = tt; copied = λ 𝓤 H A W. uint-copy 𝓤 H A W w16 }
 
 -- the bytes of a record
 abbrev pub recordBytes : ℕ
-recordBytes = 84
+recordBytes = 124
 
 pub device-sized : Sized device recordBytes
 device-sized = record { one = refl; size = refl; small = tt; copied = λ 𝓤 H A W. LL.copy D.the-type D′.the-copy 𝓤 H A W }
 
+abbrev pub seen : Data
+seen = rec W.the-type W′.the-laws W′.the-plain W′.the-copy
+
 abbrev pub widths : Data
-widths = rec W.the-type W′.the-laws W′.the-plain W′.the-copy
+widths = rec Y.the-type Y′.the-laws Y′.the-plain Y′.the-copy
+
+-- what a call is tested by beside the records
+abbrev pub ownTests : Data
+ownTests = rec O.the-type O′.the-laws O′.the-plain O′.the-copy
 
 -- the planes of a record that is a value of its type are rows of sixteen bytes
 pub planes-of : (d : Device) → Is (device .row) d (device .val d ∷ [])
@@ -63,6 +79,8 @@ stored d k y z s m =
       fitted = d .fitted;
       «answer_mark» = m;
       command = d .command;
+      family = d .family;
+      ports = d .ports;
     }
 
 pub is-stored : (d : Device) (k y z s m : ℕ) → y < 2 ^ 8 → z < 2 ^ 8 → s < 2 ^ 16 → m < 2 ^ 8 → Is (device .row) d (device .val d ∷ []) → Is (device .row) (stored d k y z s m) (device .val (stored d k y z s m) ∷ [])
@@ -73,11 +91,25 @@ is-stored d k y z s m hy hz hs hm is =
     let ps = planes-of d is in
     let q = LL.owes Q.the-type Q′.the-laws (e .registers .planes) (is-set 16 (d .registers .planes .p0) _ (ps .0) k y hy, (is-set 16 (d .registers .planes .p1) _ (ps .1) k z hz, tt)) in
     let g = LL.owes G.the-type G′.the-laws (e .registers) (r .0, (r .1 .0, (r .1 .1 .0, (r .1 .1 .1 .0, (q, r .1 .1 .1 .1 .1))))) in
-    LL.owes D.the-type D′.the-laws e (g, ((refl, hs), (a .1 .1 .0, ((refl, hm), (a .1 .1 .1 .1 .0, tt)))))
+    LL.owes D.the-type D′.the-laws e (g, ((refl, hs), (a .1 .1 .0, ((refl, hm), a .1 .1 .1 .1))))
 
--- ---- a record in memory, by the machine values of its fields: y and z are its planes, s its shift word, m its answer mark and a its command address
-abbrev pub Cell : {M : Type 1} (𝓤 : URA M) → Share → ℕ → ℕ → (c f e g w h t a y z s m : Val) → Item 𝓤
-Cell 𝓤 q b o c f e g w h t a y z s m = ‵ (fat q (raw (device .ty)) b o (vstruct (ofList (vstruct (ofList (c ∷ f ∷ e ∷ g ∷ vstruct (ofList (y ∷ z ∷ [])) ∷ w ∷ h ∷ [])) ∷ s ∷ t ∷ m ∷ a ∷ []))))
+-- the registers of a record that is a value of its type, and that with others, and another shift word and answer mark
+pub registers-of : (d : Device) → Is (device .row) d (device .val d ∷ []) → Is (registers .row) (d .registers) (registers .val (d .registers) ∷ [])
+registers-of d is = LL.owed D.the-type D′.the-laws d (device .val d ∷ []) is .0
+
+pub is-replaced : (d : Device) (x : Registers) (s m : ℕ) → Is (registers .row) x (registers .val x ∷ []) → s < 2 ^ 16 → m < 2 ^ 8 → Is (device .row) d (device .val d ∷ [])
+    → Is (device .row) (withMark (withShift (withRegisters d x) s) m) (device .val (withMark (withShift (withRegisters d x) s) m) ∷ [])
+is-replaced d x s m hx hs hm is =
+    let a = LL.owed D.the-type D′.the-laws d (device .val d ∷ []) is in
+    LL.owes D.the-type D′.the-laws (withMark (withShift (withRegisters d x) s) m) (hx, ((refl, hs), (a .1 .1 .0, ((refl, hm), a .1 .1 .1 .1))))
+
+-- ---- a record in memory, by the machine values of its fields: y and z are its planes, s its shift word, m its answer mark, a its command address, n its family and r its ports
+abbrev pub Cell : {M : Type 1} (𝓤 : URA M) → Share → ℕ → ℕ → (c f e g w h t a n r y z s m : Val) → Item 𝓤
+Cell 𝓤 q b o c f e g w h t a n r y z s m = ‵ (fat q (raw (device .ty)) b o (vstruct (ofList (vstruct (ofList (c ∷ f ∷ e ∷ g ∷ vstruct (ofList (y ∷ z ∷ [])) ∷ w ∷ h ∷ [])) ∷ s ∷ t ∷ m ∷ a ∷ n ∷ r ∷ []))))
+
+-- the same, its registers r as one
+abbrev pub Whole : {M : Type 1} (𝓤 : URA M) → Share → ℕ → ℕ → (r s t m a n p : Val) → Item 𝓤
+Whole 𝓤 q b o r s t m a n p = ‵ (fat q (raw (device .ty)) b o (vstruct (ofList (r ∷ s ∷ t ∷ m ∷ a ∷ n ∷ p ∷ []))))
 
 module _ {M : Type 1} {𝓤 : URA M} {H : Heap 𝓤} {A : Atoms 𝓤} {K : Type 0} {W : Given 𝓤 H A} {b o : ℕ} where
   -- where the four lie
@@ -94,20 +126,45 @@ module _ {M : Type 1} {𝓤 : URA M} {H : Heap 𝓤} {A : Atoms 𝓤} {K : Type 
     pub at-mark : K → Walks K W Γ E (device .ty, b, o) (field 3 ∷ []) (tyInt w8, b, o + 79)
     at-mark t = fld t refl (stop t)
 
+    pub at-registers : K → Walks K W Γ E (device .ty, b, o) (field 0 ∷ []) (registers .ty, b, o + 0)
+    at-registers t = fld t refl (stop t)
+
+    pub at-family : K → Walks K W Γ E (device .ty, b, o) (field 5 ∷ []) (tyInt w8, b, o + 81)
+    at-family t = fld t refl (stop t)
+
   -- their cells within the record's
-  module _ {q : Share} {c f e g w h t a y z s m : Val} where
-    pub in-p0 : K → Part K W (Cell 𝓤 q b o c f e g w h t a y z s m) q (tyArray (tyInt w8) 16) b (o + 0 + 36 + 0) y (λ u. Cell 𝓤 q b o c f e g w h t a u z s m)
+  module _ {q : Share} {c f e g w h t a n r y z s m : Val} where
+    pub in-p0 : K → Part K W (Cell 𝓤 q b o c f e g w h t a n r y z s m) q (tyArray (tyInt w8) 16) b (o + 0 + 36 + 0) y (λ u. Cell 𝓤 q b o c f e g w h t a n r u z s m)
     in-p0 k = sub k 0 refl (sub k 4 refl (sub k 0 refl (whole k)))
 
-    pub in-p1 : K → Part K W (Cell 𝓤 q b o c f e g w h t a y z s m) q (tyArray (tyInt w8) 16) b (o + 0 + 36 + 16) z (λ u. Cell 𝓤 q b o c f e g w h t a y u s m)
+    pub in-p1 : K → Part K W (Cell 𝓤 q b o c f e g w h t a n r y z s m) q (tyArray (tyInt w8) 16) b (o + 0 + 36 + 16) z (λ u. Cell 𝓤 q b o c f e g w h t a n r y u s m)
     in-p1 k = sub k 1 refl (sub k 4 refl (sub k 0 refl (whole k)))
 
-    pub in-shift : K → Part K W (Cell 𝓤 q b o c f e g w h t a y z s m) q (tyInt w16) b (o + 76) s (λ u. Cell 𝓤 q b o c f e g w h t a y z u m)
+    pub in-shift : K → Part K W (Cell 𝓤 q b o c f e g w h t a n r y z s m) q (tyInt w16) b (o + 76) s (λ u. Cell 𝓤 q b o c f e g w h t a n r y z u m)
     in-shift k = sub k 1 refl (whole k)
 
-    pub in-mark : K → Part K W (Cell 𝓤 q b o c f e g w h t a y z s m) q (tyInt w8) b (o + 79) m (λ u. Cell 𝓤 q b o c f e g w h t a y z s u)
+    pub in-mark : K → Part K W (Cell 𝓤 q b o c f e g w h t a n r y z s m) q (tyInt w8) b (o + 79) m (λ u. Cell 𝓤 q b o c f e g w h t a n r y z s u)
     in-mark k = sub k 3 refl (whole k)
 
+  -- the registers, the shift word and the answer mark of a record in a row
+  module _ {q : Share} {r s t m a n p : Val} where
+    pub row-registers : K → Part K W (Whole 𝓤 q b o r s t m a n p) q (registers .ty) b (o + 0) r (λ u. Whole 𝓤 q b o u s t m a n p)
+    row-registers k = unraw k {τ = registers .ty} (sub k 0 refl (whole k))
+
+    pub row-shift : K → Part K W (Whole 𝓤 q b o r s t m a n p) q (tyInt w16) b (o + 76) s (λ u. Whole 𝓤 q b o r u t m a n p)
+    row-shift k = sub k 1 refl (whole k)
+
+    pub row-mark : K → Part K W (Whole 𝓤 q b o r s t m a n p) q (tyInt w8) b (o + 79) m (λ u. Whole 𝓤 q b o r s t u a n p)
+    row-mark k = sub k 3 refl (whole k)
+
   -- the shift word of a record in a local
-  pub local-shift : K → {q : Share} {r s t m a : Val} → Part K W (‵ (fat q (device .ty) b o (vstruct (ofList (r ∷ s ∷ t ∷ m ∷ a ∷ []))))) q (tyInt w16) b (o + 76) s (λ u. ‵ (fat q (device .ty) b o (vstruct (ofList (r ∷ u ∷ t ∷ m ∷ a ∷ [])))))
+  pub local-shift : K → {q : Share} {r s t m a n p : Val} → Part K W (‵ (fat q (device .ty) b o (vstruct (ofList (r ∷ s ∷ t ∷ m ∷ a ∷ n ∷ p ∷ []))))) q (tyInt w16) b (o + 76) s (λ u. ‵ (fat q (device .ty) b o (vstruct (ofList (r ∷ u ∷ t ∷ m ∷ a ∷ n ∷ p ∷ [])))))
   local-shift k = sub k 1 refl (whole k)
+
+  -- the family of a record in a row
+  pub row-family : K → {q : Share} {r s t m a n p : Val} → Part K W (‵ (fat q (raw (device .ty)) b o (vstruct (ofList (r ∷ s ∷ t ∷ m ∷ a ∷ n ∷ p ∷ []))))) q (tyInt w8) b (o + 81) n (λ u. ‵ (fat q (raw (device .ty)) b o (vstruct (ofList (r ∷ s ∷ t ∷ m ∷ a ∷ u ∷ p ∷ [])))))
+  row-family k = sub k 5 refl (whole k)
+
+-- it is a byte
+pub family-is : (d : Device) → Is (device .row) d (device .val d ∷ []) → Is (byte .row) (d .family) (byte .val (d .family) ∷ [])
+family-is d is = (refl, LL.owed D.the-type D′.the-laws d (device .val d ∷ []) is .1 .1 .1 .1 .1 .0 .1)

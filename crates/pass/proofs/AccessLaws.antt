@@ -4,16 +4,16 @@
 --     length-next                                      how many words the wire leaves
 -- Assumes nothing.
 use Rattle.ground.proofs.Names.{ℕ, _≤_, _<_, arith, Bool, true, false, _&&_, List, [], _∷_, _++_, map, append-nil, _≡_, refl, sym, ap, _∙_, eqb, leb, length, getD, take, drop, replicate, length-append, length-drop, length-map, List·getD-append, List·getD-map, take-at, take-length, drop-length, ext-getD, eqb-true, eq-eqb, ne-eqb, le-leb, if, tabulate, length-tabulate, getD-tabulate, tabulate-ext}
-use Rattle.refusals.specs.Refusals.{bytesFor, chainRefusal, soundRefusal, sizeRefusal}
-use Rattle.refusals.proofs.RefusalLaws.{first-zero, found-last}
+use Rattle.refusals.specs.Refusals.{bytesFor, chainRefusal, soundRefusal, familyRefusal, firstOf, sizeRefusal}
+use Rattle.refusals.proofs.RefusalLaws.{first-zero, found-rest}
 use Rattle.wire.specs.Shift.{fits, wordsAfter, roomAfter}
 use Rattle.wire.specs.Wire.{answer, shifted}
 use Rattle.wire.proofs.WholeLaws.{length-shifted}
 use Rattle.device.specs.PowerUp.{powerUp}
-use Rattle.device.specs.Taken.{taken}
+use Rattle.device.specs.Families.{takes, families}
 use Rattle.device.specs.declared.Device.{Device}
 use Rattle.calls.specs.Calls.{access}
-use Rattle.calls.specs.CallRefusals.{allSound}
+use Rattle.calls.specs.CallRefusals.{familiesBelow, allSound}
 use Rattle.calls.specs.Served.{shiftWords, allTaken}
 use Rattle.calls.specs.Outcome.{number, after, reply, outcome}
 use Rattle.pass.specs.Found.{accessByArguments, toPassIn, inRoom, found}
@@ -35,7 +35,7 @@ module _ (ds : List Device) (c : ℕ) (sent room : List ℕ) where
   m = toPassIn first n (length zeros)
 
   abbrev nr : ℕ
-  nr = found first (allSound (take m ds))
+  nr = found first (allSound (take m ds)) (familiesBelow 2 (families (take m ds)))
 
   -- no number yet: the chain is short enough, and the clocks and bytes fit
   no-first : first ≡ 0 → (chainRefusal n ≡ 0) × (sizeRefusal c (length sent) (length room) ≡ 0)
@@ -51,12 +51,12 @@ module _ (ds : List Device) (c : ℕ) (sent room : List ℕ) where
 
   pub access-number : nr ≡ number (access c sent room) ds
   unfolding number
-  access-number = go (eqb first 0) refl ∙ found-last (chainRefusal n ∷ sizeRefusal c (length sent) (length room) ∷ []) (soundRefusal (allSound ds))
+  access-number = go (eqb first 0) refl ∙ found-rest (chainRefusal n ∷ sizeRefusal c (length sent) (length room) ∷ []) (soundRefusal (allSound ds) ∷ familyRefusal (familiesBelow 2 (families ds)) ∷ [])
     where
-      go : (b : Bool) → eqb first 0 ≡ b → if b (soundRefusal (allSound (take m ds))) first ≡ if b (soundRefusal (allSound ds)) first
+      go : (b : Bool) → eqb first 0 ≡ b → if b (firstOf (soundRefusal (allSound (take m ds)) ∷ familyRefusal (familiesBelow 2 (families (take m ds))) ∷ [])) first ≡ if b (firstOf (soundRefusal (allSound ds) ∷ familyRefusal (familiesBelow 2 (families ds)) ∷ [])) first
       go true e =
           let whole : take m ds ≡ ds = ap (λ (k : ℕ). take k ds) (all-passed (eqb-true first 0 e)) ∙ take-length ds in
-          ap (λ (xs : List Device). soundRefusal (allSound xs)) whole
+          ap (λ (xs : List Device). firstOf (soundRefusal (allSound xs) ∷ familyRefusal (familiesBelow 2 (families xs)) ∷ [])) whole
       go false e = refl
 
   pub access-refused : (nr ≡ 0 → ⊥) → outcome (access c sent room) ds ≡ record { number = nr; records = ds; back = room }
@@ -67,7 +67,7 @@ module _ (ds : List Device) (c : ℕ) (sent room : List ℕ) where
     first-is-zero : first ≡ 0
     first-is-zero = go (eqb first 0) refl z
       where
-        go : (b : Bool) → eqb first 0 ≡ b → if b (soundRefusal (allSound (take m ds))) first ≡ 0 → first ≡ 0
+        go : (b : Bool) → eqb first 0 ≡ b → if b (firstOf (soundRefusal (allSound (take m ds)) ∷ familyRefusal (familiesBelow 2 (families (take m ds))) ∷ [])) first ≡ 0 → first ≡ 0
         go true e q = eqb-true first 0 e
         go false e q = q
 
@@ -112,8 +112,8 @@ module _ (ds : List Device) (c : ℕ) (sent room : List ℕ) where
     pub access-served : outcome (access c sent room) ds ≡ record { number = nr; records = takenTo ds next (inRoom n (length next)); back = roomAfter (wordsTo ds zeros m) n c sent room }
     unfolding after reply
     access-served =
-        let each : tabulate n (λ i. taken (getD ds i powerUp) (getD next i 0)) ≡ allTaken ds (shifted (shiftWords ds) sent c) =
-        tabulate-ext n _ _ (λ i b. rw shifted-words (ap (λ (v : ℕ). taken (getD ds i powerUp) v) (List·getD-append (shifted (shiftWords ds) sent c) _ 0 i (rw length-shifted-words b)))) in
+        let each : tabulate n (λ i. takes (getD ds i powerUp) (getD next i 0)) ≡ allTaken ds (shifted (shiftWords ds) sent c) =
+        tabulate-ext n _ _ (λ i b. rw shifted-words (ap (λ (v : ℕ). takes (getD ds i powerUp) v) (List·getD-append (shifted (shiftWords ds) sent c) _ 0 i (rw length-shifted-words b)))) in
         let all : takenTo ds next (inRoom n (length next)) ≡ allTaken ds (shifted (shiftWords ds) sent c) = ap (λ (k : ℕ). takenTo ds next k) room-is ∙ rw (drop-length, append-nil) each in
         let back : roomAfter (wordsTo ds zeros m) n c sent room ≡ answer (shiftWords ds) sent c ++ drop (bytesFor c) room = rw (wire-fits, words-are) in
         rw (all, back, ← access-number, z)

@@ -1,4 +1,7 @@
 pub mod WidthLaws
+pub mod SeenLaws
+pub mod AgainLaws
+pub mod OwnLaws
 pub mod FoundLaws
 pub mod StepLaws
 pub mod AccessLaws

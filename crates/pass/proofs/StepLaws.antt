@@ -2,7 +2,7 @@
 -- Assumes nothing.
 use Rattle.ground.proofs.Names.{ℕ, _+_, _≤_, _<_, arith, List, _≡_, ap, _∙_, length, getD, set, length-append, length-drop, length-tabulate, tabulate-none, tabulate-step, tabulate-rest}
 use Rattle.device.specs.PowerUp.{powerUp}
-use Rattle.device.specs.Taken.{taken}
+use Rattle.device.specs.Families.{takes}
 use Rattle.device.specs.declared.Device.{Device}
 use Rattle.pass.specs.OneByOne.{wordsTo, takenTo}
 
@@ -19,8 +19,8 @@ module _ (ds : List Device) (ws : List ℕ) where
   pub taken-start : ds ≡ takenTo ds ws 0
   taken-start = tabulate-none _ ds
 
-  pub taken-more : (i : ℕ) → i < length ds → set (takenTo ds ws i) i (taken (getD (takenTo ds ws i) i powerUp) (getD ws i 0)) ≡ takenTo ds ws (i + 1)
-  taken-more i h = ap (λ (d : Device). set (takenTo ds ws i) i (taken d (getD ws i 0))) (tabulate-rest powerUp i _ ds) ∙ tabulate-step powerUp i _ ds h
+  pub taken-more : (i : ℕ) → i < length ds → set (takenTo ds ws i) i (takes (getD (takenTo ds ws i) i powerUp) (getD ws i 0)) ≡ takenTo ds ws (i + 1)
+  taken-more i h = ap (λ (d : Device). set (takenTo ds ws i) i (takes d (getD ws i 0))) (tabulate-rest powerUp i _ ds) ∙ tabulate-step powerUp i _ ds h
 
   pub length-taken : (k : ℕ) → k ≤ length ds → length (takenTo ds ws k) ≡ length ds
   length-taken k h = rw (length-append, length-tabulate, length-drop) (omega arith)

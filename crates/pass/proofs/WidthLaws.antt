@@ -1,13 +1,11 @@
--- The widths of a chain's records tell whether every record is sound.
---     widths-start, widths-more, all-start, all-more      the records one by one
---     fit-all                                             a pass over records whose bytes are bytes
+-- The widths of a chain's records of the old family tell whether each is sound.
+--     all-start, all-more      the records one by one
+--     fit-more                 one record of the old family more, whose bytes are bytes
 -- Assumes nothing.
 use Rattle.ground.proofs.Names.{ℕ, _+_, _/_, _%_, _^_, _<_, add-one, decLt, arith, Bool, true, false, _&&_, and-assoc, List, [], _∷_, _++_, _≡_, refl, sym, ap, ap₂, _∙_, bitOr, or-lt, or-add-and, and-le-l, and-le-r, or-shr, or-mod, ltb, length, getD, take, take-suc, lt-ltb, le-ltb}
-use mathlib.Core.Bool.{and-true}
 use Rattle.device.specs.PowerUp.{powerUp}
 use Rattle.device.specs.Sound.{soundOf}
 use Rattle.device.specs.declared.Device.{Device}
-use Rattle.calls.specs.CallRefusals.{allSound}
 use Rattle.pass.specs.Widths.{greater, firstBytes, lastBytes, endBytes, noWidths, widthsWith, widthsOf, fit, Bytes, AllBytes}
 use Rattle.pass.specs.declared.Widths.{Widths}
 
@@ -38,8 +36,8 @@ all-more xs k h w b = rw (add-one, take-suc xs k powerUp h) (go (take k xs) w)
 
 -- ---- two numbers together pass a test where each does
 -- a test that is two tests
-record Two (p a b : Bool) : Type 0 where
-  same : p ≡ a && b
+pub record Two (p a b : Bool) : Type 0 where
+  pub same : p ≡ a && b
 
 -- two of them, crosswise
 cross : {p x a b c d : Bool} → Two p a b → Two x c d → Two (p && x) (a && c) (b && d)
@@ -52,7 +50,7 @@ cross {a = a} {b = b} {c = c} {d = d} e f = record { same = ap₂ _&&_ (e .same)
     go false b c = refl
 
 -- bits one over the other have none too high where neither has
-or-small : (k a b : ℕ) → Two (ltb (bitOr a b) (2 ^ k)) (ltb a (2 ^ k)) (ltb b (2 ^ k))
+pub or-small : (k a b : ℕ) → Two (ltb (bitOr a b) (2 ^ k)) (ltb a (2 ^ k)) (ltb b (2 ^ k))
 or-small k a b = record { same = go (decLt a (2 ^ k)) (decLt b (2 ^ k)) }
   where
     go : Dec (a < 2 ^ k) → Dec (b < 2 ^ k) → ltb (bitOr a b) (2 ^ k) ≡ ltb a (2 ^ k) && ltb b (2 ^ k)
@@ -71,7 +69,7 @@ or-byte j k a b v e =
     }
 
 -- the greater of two numbers is below a third where both are
-greater-small : (m a b : ℕ) → Two (ltb (greater a b) m) (ltb a m) (ltb b m)
+pub greater-small : (m a b : ℕ) → Two (ltb (greater a b) m) (ltb a m) (ltb b m)
 greater-small m a b = record { same = go (decLt a b) (decLt a m) (decLt b m) }
   where
     go : Dec (a < b) → Dec (a < m) → Dec (b < m) → ltb (greater a b) m ≡ ltb a m && ltb b m
@@ -110,7 +108,7 @@ module _ (w : Widths) (d : Device) (y : Bytes d) where
   command-is : endBytes d / 256 % 256 ≡ d .command
   command-is = omega (arith, y .mark, y .command)
 
-  fit-more : fit (widthsWith w d) ≡ fit w && soundOf d
+  pub fit-more : fit (widthsWith w d) ≡ fit w && soundOf d
   fit-more =
       let c = d .registers .controls in
       let f = d .registers .config in
@@ -121,12 +119,3 @@ module _ (w : Widths) (d : Device) (y : Bytes d) where
       let blink = greater-small 4000000 (w .blink) (d .registers .blink) in
       let registers = cross (cross (cross (cross controls config) keys) pins) blink in
       cross (cross registers (end-byte 0 1 (d .«answer_mark») mark-is)) (end-byte 8 7 (d .command) command-is) .same
-
--- ---- all records
-fit-of : (w : Widths) (ds : List Device) → AllBytes ds → fit (widthsOf w ds) ≡ fit w && allSound ds
-unfolding widthsOf allSound AllBytes
-fit-of w [] y = sym (and-true (fit w))
-fit-of w (d ∷ ds) y = fit-of (widthsWith w d) ds (y .1) ∙ rw (fit-more w d (y .0), and-assoc (fit w) (soundOf d) (allSound ds))
-
-pub fit-all : (ds : List Device) → AllBytes ds → fit (widthsOf noWidths ds) ≡ allSound ds
-fit-all ds y = fit-of noWidths ds y

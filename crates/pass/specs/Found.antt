@@ -6,13 +6,16 @@ use mathlib.Core.List.{List, [], _∷_}
 use lib.Dec.{eqb, leb}
 use lib.ListN.{length}
 use Rattle.ground.specs.Choice.{if}
-use Rattle.refusals.specs.Refusals.{chainRefusal, driverRefusal, soundRefusal, firstOf, sizeRefusal}
+use Rattle.refusals.specs.Refusals.{chainRefusal, driverRefusal, soundRefusal, familyRefusal, firstOf, sizeRefusal}
+use Rattle.device.specs.Families.{families}
 use Rattle.device.specs.declared.Device.{Device}
-use Rattle.calls.specs.CallRefusals.{allSound}
+use Rattle.calls.specs.CallRefusals.{familyAt, familiesBelow, allSound}
+use Rattle.pass.specs.Own.{argumentAt, lackAt}
+use Rattle.pass.specs.declared.Own.{Own}
 
--- the number of a call that names a driver, by its arguments; own is that of what the driver is given or asked
-abbrev pub byArguments : ℕ → ℕ → ℕ → ℕ
-byArguments n driver own = firstOf (chainRefusal n ∷ driverRefusal n driver ∷ own ∷ [])
+-- the number of a call that names a driver, by these alone
+abbrev pub byArguments : ℕ → ℕ → ℕ
+byArguments n driver = firstOf (chainRefusal n ∷ driverRefusal n driver ∷ [])
 
 -- the number of an access, by its arguments
 abbrev pub accessByArguments : ℕ → ℕ → ℕ → ℕ → ℕ
@@ -30,10 +33,20 @@ toPassIn first n w = if (eqb first 0 && leb n w) n 0
 abbrev pub inRoom : ℕ → ℕ → ℕ
 inRoom n w = if (leb n w) n 0
 
--- the number once they are passed, and are sound or not
-abbrev pub found : ℕ → Bool → ℕ
-found first sound = if (eqb first 0) (soundRefusal sound) first
+-- the number of an access once they are passed, and are sound or not, of known families or not
+abbrev pub found : ℕ → Bool → Bool → ℕ
+found first sound known = if (eqb first 0) (firstOf (soundRefusal sound ∷ familyRefusal known ∷ [])) first
+
+-- of a call that names a driver of family f; own is what the call is tested by
+abbrev pub foundNamed : ℕ → Bool → Bool → Own → ℕ → ℕ
+foundNamed first sound known own f = if (eqb first 0) (firstOf (argumentAt own f ∷ soundRefusal sound ∷ familyRefusal known ∷ lackAt own f ∷ [])) first
 
 -- the number of a call on a chain that names a driver
-abbrev pub callRefusal : List Device → ℕ → ℕ → ℕ
-callRefusal ds driver own = firstOf (chainRefusal (length ds) ∷ driverRefusal (length ds) driver ∷ own ∷ soundRefusal (allSound ds) ∷ [])
+abbrev pub callRefusal : List Device → ℕ → Own → ℕ
+callRefusal ds driver own =
+    firstOf (chainRefusal (length ds) ∷ driverRefusal (length ds) driver ∷ argumentAt own (familyAt (families ds) driver) ∷ soundRefusal (allSound ds)
+    ∷ familyRefusal (familiesBelow 2 (families ds)) ∷ lackAt own (familyAt (families ds) driver) ∷ [])
+
+-- of one that asks the whole row, which no MAX6957 may be in
+abbrev pub rowRefusal : List Device → ℕ
+rowRefusal ds = firstOf (chainRefusal (length ds) ∷ soundRefusal (allSound ds) ∷ familyRefusal (familiesBelow 1 (families ds)) ∷ [])

@@ -1,4 +1,4 @@
--- Auxiliary: whether every record of a chain is sound, from the bits of all their fields together. `allSound` is what is believed.
+-- Auxiliary: whether every record of the old family is sound, from the bits of all their fields together. `allSound` is what is believed.
 -- Assumes nothing.
 use Prim.Native.Nat.{ℕ, _+_, _*_, _/_, _%_, _<_}
 use mathlib.Core.Bool.{Bool, _&&_}
@@ -38,7 +38,7 @@ endBytes x = twoBytes (x .«answer_mark») (x .command)
 
 -- of no record
 abbrev pub noWidths : Widths
-noWidths = record { first = 0; last = 0; pins = 0; blink = 0; interrupt = 0; ends = 0 }
+noWidths = record { first = 0; last = 0; pins = 0; blink = 0; interrupt = 0; ends = 0; families = 0 }
 
 -- of one record more: its fields' bits over those that are there, and the greater blink count
 abbrev pub widthsWith : Widths → Device → Widths
@@ -50,6 +50,7 @@ widthsWith w x =
       blink = greater (w .blink) (x .registers .blink);
       interrupt = bitOr (w .interrupt) (x .registers .keys .interrupt);
       ends = bitOr (w .ends) (endBytes x);
+      families = bitOr (w .families) (x .family);
     }
 
 -- of records, one after the other

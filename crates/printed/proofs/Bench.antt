@@ -4,7 +4,8 @@ use Rattle.ground.proofs.Names.{refl, tabulate, Agree}
 use Rattle.wire.specs.Bits.{bits, value, unpack, byteAt, pack, wordAt}
 use Rattle.wire.specs.Wire.{string, words, wire, answer, shifted}
 use Rattle.device.specs.Taken.{taken}
-use Rattle.calls.specs.CallRefusals.{allSound}
+use Rattle.device.specs.Families.{takes, pinned, soundRecord}
+use Rattle.calls.specs.CallRefusals.{familiesBelow, allSound}
 use Rattle.calls.specs.Outcome.{number, after, reply}
 use Rattle.printed.specs.Lines.{each}
 use Rattle.printed.specs.Format.{itemsAfter}
@@ -20,27 +21,27 @@ unfolding each
 bench-answers = refl
 
 bench : Printed rows
-unfolding tabulate bits value unpack byteAt pack wordAt string words wire answer shifted taken allSound number after reply each itemsAfter runLines printed
+unfolding tabulate bits value unpack byteAt pack wordAt string words wire answer shifted taken takes pinned familiesBelow soundRecord allSound number after reply each itemsAfter runLines printed
 bench = refl
 
 bench-lines : Printed lineRows
-unfolding tabulate bits value unpack byteAt pack wordAt string words wire answer shifted taken allSound number after reply each itemsAfter runLines printed
+unfolding tabulate bits value unpack byteAt pack wordAt string words wire answer shifted taken takes pinned familiesBelow soundRecord allSound number after reply each itemsAfter runLines printed
 bench-lines = refl
 
 bench-scans : Printed scanRows
-unfolding tabulate bits value unpack byteAt pack wordAt string words wire answer shifted taken allSound number after reply each itemsAfter runLines printed
+unfolding tabulate bits value unpack byteAt pack wordAt string words wire answer shifted taken takes pinned familiesBelow soundRecord allSound number after reply each itemsAfter runLines printed
 bench-scans = refl
 
 bench-marks : Printed markRows
-unfolding tabulate bits value unpack byteAt pack wordAt string words wire answer shifted taken allSound number after reply each itemsAfter runLines printed
+unfolding tabulate bits value unpack byteAt pack wordAt string words wire answer shifted taken takes pinned familiesBelow soundRecord allSound number after reply each itemsAfter runLines printed
 bench-marks = refl
 
 bench-assumed : Printed assumedRows
-unfolding tabulate bits value unpack byteAt pack wordAt string words wire answer shifted taken allSound number after reply each itemsAfter runLines printed
+unfolding tabulate bits value unpack byteAt pack wordAt string words wire answer shifted taken takes pinned familiesBelow soundRecord allSound number after reply each itemsAfter runLines printed
 bench-assumed = refl
 
 bench-malformed : Printed malformedRows
-unfolding tabulate bits value unpack byteAt pack wordAt string words wire answer shifted taken allSound number after reply each itemsAfter runLines printed
+unfolding tabulate bits value unpack byteAt pack wordAt string words wire answer shifted taken takes pinned familiesBelow soundRecord allSound number after reply each itemsAfter runLines printed
 bench-malformed = refl
 
 pub examples : Examples

@@ -1,5 +1,5 @@
 -- The first number of a list that isn't 0, and what rows that gave 0 tell.
---     first-zero, first-last, found-last       a list of numbers
+--     first-zero, first-last, found-last, found-rest       a list of numbers
 --     size-served, segments-served, plane-served       what calls that are served have
 -- Assumes nothing.
 use Rattle.ground.proofs.Names.{ℕ, _<_, _≤_, arith, Bool, true, false, _&&_, List, [], _∷_, _++_, _≡_, refl, sym, eqb, leb, ltb, length, eqb-true, eqb-false, leb-true, ltb-true, ltb-false, if, passed, and-left, and-right}
@@ -28,6 +28,16 @@ found-last (k ∷ ks) d = go (eqb k 0) refl (found-last ks d)
   where
     go : (z : Bool) → eqb k 0 ≡ z → if (eqb (firstOf ks) 0) d (firstOf ks) ≡ firstOf (ks ++ d ∷ [])
         → if (eqb (if z (firstOf ks) k) 0) d (if z (firstOf ks) k) ≡ if z (firstOf (ks ++ d ∷ [])) k
+    go true e r = r
+    go false e r = rw e
+
+-- the first number of two lists, one after the other
+pub found-rest : (ks rest : List ℕ) → if (eqb (firstOf ks) 0) (firstOf rest) (firstOf ks) ≡ firstOf (ks ++ rest)
+found-rest [] rest = refl
+found-rest (k ∷ ks) rest = go (eqb k 0) refl (found-rest ks rest)
+  where
+    go : (z : Bool) → eqb k 0 ≡ z → if (eqb (firstOf ks) 0) (firstOf rest) (firstOf ks) ≡ firstOf (ks ++ rest)
+        → if (eqb (if z (firstOf ks) k) 0) (firstOf rest) (if z (firstOf ks) k) ≡ if z (firstOf (ks ++ rest)) k
     go true e r = r
     go false e r = rw e
 

@@ -1,4 +1,4 @@
--- Believed: document 01, "Numbers a call may give": 1 to 7, in the table's order, and document 02's 10 to 13. Each is its number where the row applies, else 0.
+-- Believed: document 01, "Numbers a call may give": 1 to 7, in the table's order, and document 02's 10 to 14, in the order 1 to 7, 10, 11, 14, 12, 13. Each is its number where the row applies, else 0.
 -- Assumes nothing.
 use Prim.Native.Nat.{ℕ, _+_, _*_, _/_}
 use mathlib.Core.Bool.{Bool, _&&_}
@@ -35,9 +35,9 @@ roomRefusal c room = if (ltb room (bytesFor c)) 5 0
 abbrev pub segmentsRefusal : ℕ → List ℕ → List ℕ → ℕ
 segmentsRefusal d font14 font16 = if (ltb d 8 && eqb (length font14) 128 && eqb (length font16) 128) 0 6
 
--- 6: pin levels above 31
-abbrev pub levelsRefusal : ℕ → ℕ
-levelsRefusal l = if (ltb 31 l) 6 0
+-- 6: pin levels above 31 for the old family, above 28 bits for a MAX6957 (document 02, request 8); of an unknown family they are not tested
+abbrev pub levelsRefusal : ℕ → ℕ → ℕ
+levelsRefusal family l = if (eqb family 0) (if (ltb 31 l) 6 0) (if (eqb family 1) (if (ltb 268435455 l) 6 0) 0)
 
 -- 6: a digit alone above 15
 abbrev pub brightnessRefusal : ℕ → ℕ
@@ -63,6 +63,14 @@ clashRefusal distinct = if distinct 0 10
 abbrev pub addressRefusal : Bool → ℕ
 addressRefusal seven = if seven 0 11
 
+-- 14: a family number unknown in some record (document 02, request 8)
+abbrev pub familyRefusal : Bool → ℕ
+familyRefusal known = if known 0 14
+
+-- 14: a call that the driver lacks (document 02, request 8)
+abbrev pub lackRefusal : Bool → ℕ
+lackRefusal lacks = if lacks 14 0
+
 -- 12: the wanted contents aren't 32 bytes for each of n drivers (document 02, request 6)
 abbrev pub wantedRefusal : ℕ → ℕ → ℕ
 wantedRefusal n wanted = if (eqb wanted (32 * n)) 0 12
@@ -71,7 +79,7 @@ wantedRefusal n wanted = if (eqb wanted (32 * n)) 0 12
 abbrev pub listRefusal : ℕ → ℕ → ℕ → ℕ
 listRefusal n k room = if (ltb room (k * n)) 13 0
 
--- the first number of a list that isn't 0, else 0: the lowest that applies is given
+-- the first number of a list that isn't 0, else 0: the first that applies is given
 abbrev pub firstOf : List ℕ → ℕ
 firstOf [] = 0
 firstOf (k ∷ ks) = if (eqb k 0) (firstOf ks) k

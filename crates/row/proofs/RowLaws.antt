@@ -6,23 +6,26 @@
 --     show-refused, show-done                      what a cathode shows, and the answer mark
 --     access-refused, access-done                  an access
 -- Assumes nothing.
-use Rattle.ground.proofs.Names.{ℕ, _-_, _≤_, _<_, min, arith, Bool, true, false, List, [], _∷_, _++_, append-nil, _≡_, refl, sym, ap, _∙_, eqb, length, getD, take, drop, set, replicate, length-take, take-append-drop, take-append-seam, List·getD-append, set-append-left, drop-length, ne-eqb, if, tabulate, tabulate-ext}
+use Rattle.ground.proofs.Names.{ℕ, _-_, _≤_, _<_, min, arith, Bool, true, false, List, [], _∷_, _++_, append-nil, _≡_, refl, sym, ap, ap₂, _∙_, eqb, leb, ltb, _&&_, length, getD, take, drop, set, replicate, length-take, take-append-drop, take-append-seam, take-length, ltb-true, leb-true, and-left, and-right, List·getD-append, set-append-left, drop-length, ne-eqb, if, tabulate, tabulate-ext}
 use lib.Seq.{drop-append-seam}
-use Rattle.refusals.specs.Refusals.{chainRefusal, driverRefusal, soundRefusal, sizeRefusal}
-use Rattle.refusals.proofs.RefusalLaws.{found-last}
+use Rattle.refusals.specs.Refusals.{chainRefusal, soundRefusal, familyRefusal, firstOf, sizeRefusal}
+use Rattle.refusals.proofs.RefusalLaws.{found-rest}
 use Rattle.wire.specs.Shift.{wordsAfter, roomAfter}
 use Rattle.device.specs.PowerUp.{powerUp}
-use Rattle.device.specs.Taken.{taken}
+use Rattle.device.specs.Families.{takes, families}
 use Rattle.device.specs.declared.Device.{Device}
 use Rattle.display.specs.Pins.{segmentsOf}
 use Rattle.calls.specs.Calls.{Step, Question, Call, access, give, ask, segments}
-use Rattle.calls.specs.CallRefusals.{stepRefusal, questionRefusal, allSound}
+use Rattle.calls.specs.CallRefusals.{familiesBelow, allSound}
 use Rattle.calls.specs.Served.{recordOf, stepped, refusedBack}
 use Rattle.calls.specs.Outcome.{number, after, reply, Outcome}
 use Rattle.calls.proofs.Accepted.{after-zero, reply-zero}
-use Rattle.pass.specs.Found.{byArguments, accessByArguments, toPass, found, callRefusal}
+use Rattle.pass.specs.Own.{stepOwn, questionOwn}
+use Rattle.pass.specs.Seen.{namedTo}
+use Rattle.pass.specs.Found.{byArguments, accessByArguments, toPass, found, foundNamed, callRefusal}
+use Rattle.pass.specs.declared.Own.{Own}
 use Rattle.pass.specs.OneByOne.{wordsTo, takenTo}
-use Rattle.pass.proofs.FoundLaws.{in-range}
+use Rattle.pass.proofs.FoundLaws.{in-range, call-found as found-on, give-number as give-on, ask-number as ask-on}
 use Rattle.pass.proofs.AccessLaws.{access-number, access-whole}
 use Rattle.row.specs.Row.{records, numberOn, replyOn, doneOn, shownOn}
 use Rattle.row.specs.declared.Row.{Row}
@@ -49,7 +52,7 @@ module _ (r : Row) (sixteen : length (r .devices) ≡ 16) where
   length-records = rw (length-take, sixteen)
 
   -- a driver that is named is one of the sixteen
-  pub in-row : (j own k : ℕ) → k ≡ callRefusal (records r) j own → k ≡ 0 → (1 ≤ j) × (j ≤ 16)
+  pub in-row : (j : ℕ) (own : Own) (k : ℕ) → k ≡ callRefusal (records r) j own → k ≡ 0 → (1 ≤ j) × (j ≤ 16)
   in-row j own k e z =
       let h = in-range (records r) j own (sym e ∙ z) in
       omega (arith, h, length-records)
@@ -59,19 +62,42 @@ module _ (r : Row) (n : ℕ) (l : n ≡ length (records r)) where
   abbrev ds : List Device
   ds = records r
 
-  pub number-found : (first w : ℕ) (sound : Bool) → w ≡ toPass first n → sound ≡ allSound (take w (r .devices)) → found first sound ≡ found first (allSound ds)
-  number-found first w sound p e = go (eqb first 0) (rw (p, l) at e)
+  -- the records that are passed are the chain's
+  part-of : (b : Bool) → take (if b (length ds) 0) (r .devices) ≡ take (if b (length ds) 0) ds
+  part-of true = part-take (r .n) (r .devices) ∙ sym (take-length ds)
+  part-of false = refl
+
+  named-of : (j : ℕ) (b : Bool) → namedTo (r .devices) j (if b (length ds) 0) ≡ namedTo ds j (if b (length ds) 0)
+  named-of j b = go (ltb 0 j && leb j (if b (length ds) 0)) refl
     where
-      go : (b : Bool) → sound ≡ allSound (take (if b (length ds) 0) (r .devices)) → if b (soundRefusal sound) first ≡ if b (soundRefusal (allSound ds)) first
-      go true e = ap soundRefusal (rw (part-take (r .n) (r .devices)) at e)
+      most : (b : Bool) → if b (length ds) 0 ≤ length ds
+      most true = omega arith
+      most false = omega arith
+      go : (t : Bool) → ltb 0 j && leb j (if b (length ds) 0) ≡ t → if t (getD (r .devices) (j - 1) powerUp .family) 0 ≡ if t (getD ds (j - 1) powerUp .family) 0
+      go true e =
+          let one = ltb-true 0 j (and-left (ltb 0 j) (leb j (if b (length ds) 0)) e) in
+          let some = leb-true j (if b (length ds) 0) (and-right (ltb 0 j) (leb j (if b (length ds) 0)) e) in
+          ap (λ (d : Device). d .family) (part-get (r .n) (r .devices) (j - 1) powerUp (omega (arith, one, some, most b)))
       go false e = refl
 
-  pub call-found : (j own first : ℕ) → first ≡ byArguments n j own → found first (allSound ds) ≡ callRefusal ds j own
-  call-found j own first e = rw (e, l) (found-last (chainRefusal (length ds) ∷ driverRefusal (length ds) j ∷ own ∷ []) (soundRefusal (allSound ds)))
+  pub number-found : (first w : ℕ) (sound known : Bool) → w ≡ toPass first n → sound ≡ allSound (take w (r .devices)) → known ≡ familiesBelow 2 (families (take w (r .devices)))
+      → found first sound known ≡ found first (allSound ds) (familiesBelow 2 (families ds))
+  number-found first w sound known p e k = go (eqb first 0) (rw (p, l) at e) (rw (p, l) at k)
+    where
+      go : (b : Bool) → sound ≡ allSound (take (if b (length ds) 0) (r .devices)) → known ≡ familiesBelow 2 (families (take (if b (length ds) 0) (r .devices)))
+          → if b (firstOf (soundRefusal sound ∷ familyRefusal known ∷ [])) first ≡ if b (firstOf (soundRefusal (allSound ds) ∷ familyRefusal (familiesBelow 2 (families ds)) ∷ [])) first
+      go true e k = ap₂ (λ (a b : Bool). firstOf (soundRefusal a ∷ familyRefusal b ∷ [])) (rw (part-take (r .n) (r .devices)) at e) (rw (part-take (r .n) (r .devices)) at k)
+      go false e k = refl
 
-  pub access-found : (c : ℕ) (sent room : List ℕ) (first : ℕ) → first ≡ accessByArguments n c (length sent) (length room) → found first (allSound ds) ≡ numberOn r (access c sent room)
+  pub call-found : (j : ℕ) (own : Own) (first w named : ℕ) (sound known : Bool) → first ≡ byArguments n j → w ≡ toPass first n
+      → sound ≡ allSound (take w (r .devices)) → known ≡ familiesBelow 2 (families (take w (r .devices))) → named ≡ namedTo (r .devices) j w
+      → foundNamed first sound known own named ≡ callRefusal ds j own
+  call-found j own first w named sound known f p s k m =
+      rw (m, k, s, p, f, l, part-of (eqb (byArguments (length ds) j) 0), named-of j (eqb (byArguments (length ds) j) 0)) (found-on ds j own)
+
+  pub access-found : (c : ℕ) (sent room : List ℕ) (first : ℕ) → first ≡ accessByArguments n c (length sent) (length room) → found first (allSound ds) (familiesBelow 2 (families ds)) ≡ numberOn r (access c sent room)
   unfolding number
-  access-found c sent room first e = rw (e, l) (found-last (chainRefusal (length ds) ∷ sizeRefusal c (length sent) (length room) ∷ []) (soundRefusal (allSound ds)))
+  access-found c sent room first e = rw (e, l) (found-rest (chainRefusal (length ds) ∷ sizeRefusal c (length sent) (length room) ∷ []) (soundRefusal (allSound ds) ∷ familyRefusal (familiesBelow 2 (families ds)) ∷ []))
 
 -- ---- a refused call of any kind
 module _ (r : Row) (q : Call) (k : ℕ) (e : k ≡ numberOn r q) (z : k ≡ 0 → ⊥) where
@@ -84,10 +110,9 @@ module _ (r : Row) (q : Call) (k : ℕ) (e : k ≡ numberOn r q) (z : k ≡ 0 �
   refused-reply = rw (← e, ne-eqb k 0 z)
 
 -- ---- a call that gives a driver something
-module _ (r : Row) (j : ℕ) (st : Step) (own k : ℕ) (o : own ≡ stepRefusal st) (e : k ≡ callRefusal (records r) j own) where
+module _ (r : Row) (j : ℕ) (st : Step) (own : Own) (k : ℕ) (o : own ≡ stepOwn st) (e : k ≡ callRefusal (records r) j own) where
   give-number : k ≡ numberOn r (give j st)
-  unfolding number
-  give-number = e ∙ rw o
+  give-number = e ∙ rw o (sym (give-on (records r) j st))
 
   pub give-refused : (k ≡ 0 → ⊥) → record { number = k; row = r } ≡ doneOn r (give j st)
   give-refused z = refused-done r (give j st) k give-number z
@@ -99,7 +124,7 @@ module _ (r : Row) (j : ℕ) (st : Step) (own k : ℕ) (o : own ≡ stepRefusal 
       rw (after-zero (give j st) (records r) t, t, part-set (r .n) (r .devices) (j - 1) (stepped st) powerUp (omega (arith, h)))
 
 -- ---- what a cathode shows, and the answer mark
-module _ (r : Row) (j d : ℕ) (font14 font16 : List ℕ) (own k : ℕ) (o : own ≡ questionRefusal (segments d font14 font16)) (e : k ≡ callRefusal (records r) j own) where
+module _ (r : Row) (j d : ℕ) (font14 font16 : List ℕ) (own : Own) (k : ℕ) (o : own ≡ questionOwn (segments d font14 font16)) (e : k ≡ callRefusal (records r) j own) where
   abbrev q : Question
   q = segments d font14 font16
 
@@ -107,8 +132,7 @@ module _ (r : Row) (j d : ℕ) (font14 font16 : List ℕ) (own k : ℕ) (o : own
   asked = getD (r .devices) (j - 1) powerUp
 
   ask-number : k ≡ numberOn r (ask j q)
-  unfolding number
-  ask-number = e ∙ rw o
+  ask-number = e ∙ rw o (sym (ask-on (records r) j q))
 
   pub show-refused : (k ≡ 0 → ⊥) → record { number = k; pins = replicate 19 0; mark = 0 } ≡ shownOn r j q
   unfolding tabulate
@@ -138,7 +162,7 @@ module _ (r : Row) (c : ℕ) (sent room : List ℕ) (k : ℕ) (e : k ≡ numberO
 
   part-taken : (ws : List ℕ) → takenTo (r .devices) ws n ≡ takenTo (records r) ws n ++ drop (r .n) (r .devices)
   part-taken ws =
-      rw (drop-length (records r), append-nil, part-drop (r .n) (r .devices), tabulate-ext n _ _ (λ i h. ap (λ (x : Device). taken x (getD ws i 0)) (part-get (r .n) (r .devices) i powerUp h)))
+      rw (drop-length (records r), append-nil, part-drop (r .n) (r .devices), tabulate-ext n _ _ (λ i h. ap (λ (x : Device). takes x (getD ws i 0)) (part-get (r .n) (r .devices) i powerUp h)))
 
   pub access-done : k ≡ 0
       → (record { number = 0; row = record { n = r .n; devices = takenTo (r .devices) (wordsAfter words n c sent room) n } } ≡ doneOn r (access c sent room))

@@ -4,13 +4,16 @@ ghost use mathlib.Core.Path.{_≡_};
 ghost use lib.ListN.{length, getD, set, take, replicate};
 ghost use Rattle.device.specs.PowerUp.{powerUp};
 ghost use Rattle.calls.specs.Calls.{access as accessCall, give, scan as scanStep, levels as levelsStep, clocks as clocksStep, segments as segmentsQuestion};
-ghost use Rattle.calls.specs.CallRefusals.{allSound};
-ghost use Rattle.pass.specs.Widths.{fit};
+ghost use lib.Dec.{ltb};
+ghost use Rattle.device.specs.Families.{families};
+ghost use Rattle.calls.specs.CallRefusals.{familiesBelow, allSound};
+ghost use Rattle.pass.specs.Seen.{namedTo, seenFit};
 ghost use Rattle.pass.specs.Found.{found, callRefusal};
 ghost use Rattle.pass.specs.OneByOne.{wordsTo, takenTo};
 ghost use Rattle.row.specs.Row.{fresh, records, replyOn, doneOn, shownOn};
 use device::Device;
-use pass::Widths;
+use pass::Own;
+use pass::Seen;
 
 // A chain of n drivers: the first n of sixteen records. A length above 16 counts as 16.
 pub struct Row {
@@ -50,36 +53,38 @@ impl Row {
         if self.n < 16 { self.n } else { 16 }
     }
 
-    // What the first n of sixteen records tell of soundness.
-    fn widths(self, n: usize) -> Widths
+    // What the first n of sixteen records tell, where a call names a driver.
+    fn seen(self, driver: usize, n: usize) -> Seen
         requires { ⌜ n ≤ 16 ⌝ }
-        ensures { λ r. ⌜ fit r ≡ allSound (take n (self .devices)) ⌝ }
+        ensures { λ r. ⌜ (seenFit r ≡ allSound (take n (self .devices))) × (ltb (r .highest) 2 ≡ familiesBelow 2 (families (take n (self .devices)))) × (r .named ≡ namedTo (self .devices) driver n) ⌝ }
     {
-        let mut w = Widths::new();
+        let mut w = Seen::new();
         let mut i = 0;
         while i < n {
-            let passed = self.devices[i];
-            w = w.with(passed);
+            let d = self.devices[i];
+            w = w.passed(d, i, driver);
             i += 1;
         }
         w
     }
 
-    // The number of a call, from that by its arguments.
+    // The number of an access, from that by its arguments.
     fn found(self, first: u8) -> u8
-        ensures { λ r. ⌜ r ≡ found first (allSound (records self)) ⌝ }
+        ensures { λ r. ⌜ r ≡ found first (allSound (records self)) (familiesBelow 2 (families (records self))) ⌝ }
     {
         let n = self.length();
-        let w = self.widths(pass::to_pass(first, n));
+        let w = self.seen(0, pass::to_pass(first, n));
         pass::found(first, w)
     }
 
-    // The number of a call that names a driver; own is that of what the driver is given or asked. Where it is 0 the driver is one of the sixteen.
-    fn number(self, driver: usize, own: u8) -> u8
+    // The number of a call that names a driver; own is what the call is tested by. Where it is 0 the driver is one of the sixteen.
+    fn number(self, driver: usize, own: Own) -> u8
         ensures { λ r. ⌜ (r ≡ callRefusal (records self) driver own) × (r ≡ 0 → (1 ≤ driver) × (driver ≤ 16)) ⌝ }
     {
         let n = self.length();
-        self.found(pass::by_arguments(n, driver, own))
+        let first = pass::by_arguments(n, driver);
+        let w = self.seen(driver, pass::to_pass(first, n));
+        pass::found_named(first, w, own)
     }
 
     // The record of the driver named.
@@ -200,7 +205,7 @@ impl Row {
     pub fn show(self, driver: usize, cathode: usize, font14: &[u16], font16: &[u16]) -> Shown
         ensures { λ r. ⌜ r ≡ shownOn self driver (segmentsQuestion cathode (now (font14 .entry)) (now (font16 .entry))) ⌝ }
     {
-        let own = shown_pins::segments_refusal(cathode, font14, font16);
+        let own = pass::segments_refusal(cathode, font14, font16);
         let number = self.number(driver, own);
         if number != 0 {
             return Shown {

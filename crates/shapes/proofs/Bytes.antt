@@ -1,5 +1,5 @@
 -- The shape of a byte on the two-wire bus, given or asked for, in place, for any further parameters of `Params.antt`:
---     let n = parts.len(); let early = call_refusal(parts, 1, 0); let part = part_open(early, n, bus, straps);
+--     let n = parts.len(); let early = row_refusal(parts); let part = part_open(early, n, bus, straps);
 --     if part == 0 { return free(early, n, bus, straps, ..); }
 --     let at = part - 1; let old = parts[at]; parts[at] = work(old, bus, ..); answer(old, bus, ..)
 --     bytes           its MIR.        ended, clauses      its contract.        walk     the MIR meets it
@@ -13,7 +13,7 @@ use Rattle.device.specs.declared.Device.{Device}
 use Rattle.bus.specs.declared.Bus.{Bus}
 use Rattle.bus.specs.BusCalls.{BusCall}
 use Rattle.bus.specs.BusOutcome.{busOutcome}
-use Rattle.pass.specs.Found.{callRefusal}
+use Rattle.pass.specs.Found.{rowRefusal}
 use Rattle.transfers.specs.Transfers.{partOpen}
 use Rattle.transfers.specs.declared.ByteAnswer.{ByteAnswer}
 use Rattle.transfers.specs.declared.Straps.{Straps}
@@ -26,10 +26,10 @@ use Rattle.shapes.proofs.Handed.{starts-first, leaves-first, hands, han
 use Rattle.shapes.proofs.Replaces.{more, store-locals, sliceOf, replacing, replaces}
 use Rattle.lent.proofs.Walk.{Walk, lands-known, calls-value, forks}
 use Rattle.lent.proofs.Params.{Sent, Kind, held, Seen, seens, Args, sents, machine, Good, ends, fits, Had, has, locals-of, operands, after, env, spot-after, alloc-all, pass-all, FnOf}
-use Rattle.lent.proofs.call_refusal.Symbol as number-def
+use Rattle.lent.proofs.row_refusal.Symbol as number-def
 use Rattle.shapes.proofs.BusTypes.{busState, strapsGiven, byteAnswer}
-use Rattle.shapes.proofs.Rows.{Known, ensuring, Closes, on-mut, stays-mut, proves-mut, refusal-known}
-use Rattle.shapes.proofs.Steps.{not-zero, ref, CallRefusal, numbers-mut}
+use Rattle.shapes.proofs.Rows.{Known, ensuring, Closes, on-mut, stays-mut, proves-mut, row-known}
+use Rattle.shapes.proofs.Steps.{not-zero, ref, RowRefusal, rows-mut}
 
 -- the locals after the parameters: n, early and part, and those of `Replaces.antt`
 abbrev locals : List Local
@@ -41,7 +41,7 @@ first = values (byteAnswer .ty ∷ sliceOf device ∷ busState .ty ∷ strapsGiv
 
 -- `freed`, `worked` and `answered` are what free, work and answer give
 module _ (free work answer : Name) (k : ℕ) (Ks : List (Kind k)) (q : Seen Ks → BusCall)
-    (freed : ℕ → ℕ → Bus → List ℕ → Seen Ks → ByteAnswer) (frees : (ds : List Device) (β : Bus) (σ : List ℕ) (p : Seen Ks) → partOpen (callRefusal ds 1 0) (length ds) β σ ≡ 0 → busOutcome σ (q p) β ds ≡ answeredTo (freed (callRefusal ds 1 0) (length ds) β σ p) ds)
+    (freed : ℕ → ℕ → Bus → List ℕ → Seen Ks → ByteAnswer) (frees : (ds : List Device) (β : Bus) (σ : List ℕ) (p : Seen Ks) → partOpen (rowRefusal ds) (length ds) β σ ≡ 0 → busOutcome σ (q p) β ds ≡ answeredTo (freed (rowRefusal ds) (length ds) β σ p) ds)
     (worked : Device → Bus → Seen Ks → Device) (answered : Device → Bus → Seen Ks → ByteAnswer)
     (opens : (ds : List Device) (β : Bus) (σ : List ℕ) (p : Seen Ks) → Reached ds β σ → busOutcome σ (q p) β ds ≡ answeredTo (answered (getD ds (β .part - 1) powerUp) β p) (set ds (β .part - 1) (worked (getD ds (β .part - 1) powerUp) β p))) where
   -- the parameters after the parts, and the number of a local after them
@@ -59,7 +59,7 @@ module _ (free work answer : Name) (k : ℕ) (Ks : List (Kind k)) (q : Seen Ks �
     locals = first ++ (locals-of Ks ++ locals);
     body = seq (assign (place (at 0) []) (rvOpd (copy (place 1 (field 1 ∷ [])))))
         (seq (assign (place (at 5) []) (addrOf (place 1 (field 0 ∷ deref (device .ty) ∷ [])))) (seq (assign (place (at 6) []) (aggregate (copy (place (at 5) []) ∷ copy (place 1 (field 1 ∷ [])) ∷ [])))
-        (seq (call number-def.name (copy (place (at 6) []) ∷ int w64 1 ∷ int w8 0 ∷ []) (place (at 1) []))
+        (seq (call number-def.name (copy (place (at 6) []) ∷ []) (place (at 1) []))
         (seq (call open′.Symbol.name (copy (place (at 1) []) ∷ copy (place (at 0) []) ∷ copy (place 2 []) ∷ copy (place 3 []) ∷ []) (place (at 2) []))
         (seq (assign (place (at 7) []) (op2 eq (copy (place (at 2) [])) (int w64 0)))
         (seq (cond (copy (place (at 7) [])) (seq (call free (copy (place (at 1) []) ∷ copy (place (at 0) []) ∷ copy (place 2 []) ∷ copy (place 3 []) ∷ operands (λ j. suc (suc (suc (suc j)))) Ks) (place 0 [])) return) skip)
@@ -97,7 +97,7 @@ module _ (free work answer : Name) (k : ℕ) (Ks : List (Kind k)) (q : Seen Ks �
     p = seens (κs .1) Ks xs′
 
     abbrev early : ℕ
-    early = callRefusal ys 1 0
+    early = rowRefusal ys
 
     abbrev part : ℕ
     part = partOpen early (length ys) β (σ .addresses)
@@ -106,7 +106,7 @@ module _ (free work answer : Name) (k : ℕ) (Ks : List (Kind k)) (q : Seen Ks �
     abbrev Left : Type 0
     Left = (r : ByteAnswer) × ((zs : List Device) × (Is (byteAnswer .row) r (byteAnswer .val r ∷ []) × ((busOutcome (σ .addresses) (q p) β ys ≡ answeredTo r zs) × (length zs ≡ length ys))))
 
-    walk : (𝓣 : Tables 𝓤 H) → Triple 𝓤 (𝓣 .C number-def.name) (CallRefusal 𝓤 H A mem run) → Triple 𝓤 (𝓣 .C open′.Symbol.name) (Open 𝓤 H A mem run) → Triple 𝓤 (𝓣 .C free) (FnOf (held byte ∷ held size ∷ held busState ∷ held strapsGiven ∷ Ks) (held byteAnswer) ψ-free 𝓤 H A) → Triple 𝓤 (𝓣 .C work) (FnOf (held device ∷ held busState ∷ Ks) (held device) ψ-work 𝓤 H A) → Triple 𝓤 (𝓣 .C answer) (FnOf (held device ∷ held busState ∷ Ks) (held byteAnswer) ψ-answer 𝓤 H A) → Room (device .row) (length ys) → Good κs others (β, (σ, xs)) → Walk 𝓤 H A ended (stays-mut others (plain (λ _. byteAnswer .row))) (clauses 𝓤) 𝓣 bytes y tt
+    walk : (𝓣 : Tables 𝓤 H) → Triple 𝓤 (𝓣 .C number-def.name) (RowRefusal 𝓤 H A mem run) → Triple 𝓤 (𝓣 .C open′.Symbol.name) (Open 𝓤 H A mem run) → Triple 𝓤 (𝓣 .C free) (FnOf (held byte ∷ held size ∷ held busState ∷ held strapsGiven ∷ Ks) (held byteAnswer) ψ-free 𝓤 H A) → Triple 𝓤 (𝓣 .C work) (FnOf (held device ∷ held busState ∷ Ks) (held device) ψ-work 𝓤 H A) → Triple 𝓤 (𝓣 .C answer) (FnOf (held device ∷ held busState ∷ Ks) (held byteAnswer) ψ-answer 𝓤 H A) → Room (device .row) (length ys) → Good κs others (β, (σ, xs)) → Walk 𝓤 H A ended (stays-mut others (plain (λ _. byteAnswer .row))) (clauses 𝓤) 𝓣 bytes y tt
     walk 𝓣 known-number known-open known-free known-work known-answer room is =
         qed W ((‵ (flft (κs .0) (qs .0)) ⊛ raw (toks 𝓤 A k (κs .1) (qs .1))) ∷ ‵ (owns (typesAt (ended .signature .params) κs) (y .3) (y .4)) ∷ []) ∵ enter ! (𝓣 .C) (𝓣 .Λ) bytes _ _ $
         starts-first W first ! (λ l D dies. alloc-all ! Ks (λ bs. starts W locals ! (λ m D′ dies′. params1 ! $
@@ -116,7 +116,7 @@ module _ (free work answer : Name) (k : ℕ) (Ks : List (Kind k)) (q : Seen Ks �
         move ! (20 ∷ 19 ∷ []) $ fsplit ! $ move ! (1 ∷ []) $ fsplit ! $ drop ! $ fsplit ! $ drop ! $ move ! (2 ∷ []) $ split ! $ move ! (2 ∷ 1 ∷ 4 ∷ []) $ hands κs qs Ks bs ! xs $ move ! (2 ∷ 1 ∷ 0 ∷ 17 ∷ span 6 9) $
         -- [the slice; its token; what is handed on; _1; the nine others, from 4; n, at 13; early; part; ..; _0 at 17; _2; _3; ..]
         sets ! (of-opd ! (count ! 3 refl refl)) 13 (spot 0) refl (tt, record { fits = room .0 }) $ sets ! (target ! 3 refl refl) 6 (spot 5) refl (tt, tt) $ sets ! (agg ! (and-then ! (var ! 6 (spot 5) refl) (and-then ! (count ! 3 refl refl) (no-more !)))) 7 (spot 6) refl (tt, (tt, (record { fits = room .0 }, tt))) $
-        numbers-mut ! (fmOf 𝓤 H (W .laws) 𝓣) mem run known-number (κs .0) (qs .0) b o γ ys room 1 0 (refl, lit< tt) (refl, lit< tt) (λ i s r. and-then ! (var ! 8 (spot 6) refl) (and-then ! (lit ! tt) (and-then ! (lit ! tt) (no-more !)))) (λ is-early wt-early. lands-in ! 14 (spot 1) refl wt-early $
+        rows-mut ! (fmOf 𝓤 H (W .laws) 𝓣) mem run known-number (κs .0) (qs .0) b o γ ys room (λ i s r. and-then ! (var ! 8 (spot 6) refl) (no-more !)) (λ is-early wt-early. lands-in ! 14 (spot 1) refl wt-early $
         calls-value ! (fmOf 𝓤 H (W .laws) 𝓣) (byte ∷ size ∷ busState ∷ strapsGiven ∷ []) size (λ _. emp 𝓤) (λ a. partOpen (a .0) (a .1 .0) (a .1 .1 .0) (a .1 .1 .1 .0 .addresses)) known-open (early, (length ys, (β, (σ, tt)))) (is-early, ((refl, room .0), (is .0, (is .1 .0, tt)))) (id⊢ 𝓤 _)
         (and-then ! (var ! 15 (spot 1) refl) (and-then ! (var ! 14 (spot 0) refl) (and-then ! (var ! 19 refl refl) (and-then ! (var ! 20 refl refl) (no-more !))))) (λ is-part wt-part. lands-in ! 15 (spot 2) refl wt-part $
         sets ! (bin ! (var ! 15 (spot 2) refl) (lit ! tt) tt) 8 (spot 7) refl (tt, tt) $
@@ -147,4 +147,4 @@ module _ (free work answer : Name) (k : ℕ) (Ks : List (Kind k)) (q : Seen Ks �
   pub bytes-spec : {M : Type 1} (γ : routine.Env) (name : Name) → Closes M γ name bytes → γ number-def.name ≡ number-def.routine → γ open′.Symbol.name ≡ open′.Symbol.routine → Known M (γ free) (FnOf (held byte ∷ held size ∷ held busState ∷ held strapsGiven ∷ Ks) (held byteAnswer) ψ-free) → Known M (γ work) (FnOf (held device ∷ held busState ∷ Ks) (held device) ψ-work) → Known M (γ answer) (FnOf (held device ∷ held busState ∷ Ks) (held byteAnswer) ψ-answer) → Known M (γ name) (λ 𝓤 H A. tripleOf 𝓤 H A (ended .signature) (closing 𝓤 H A ended (clauses 𝓤)))
   unfolding tablesOf
   bytes-spec γ name closed number opened known-free known-work known-answer 𝓤 H 𝓜 𝓖 𝓡 =
-      proves-mut others (plain (λ _. byteAnswer .row)) 𝓤 H 𝓜 𝓖 𝓡 γ name bytes (closed 𝓤 H 𝓜 𝓡) (clauses 𝓤) (λ κs qs b o δ ys a g. walk 𝓤 H (𝓖 .A) (givenOf 𝓤 H 𝓜 𝓖) (𝓜 .mem) (𝓡 .run) κs qs b o δ ys (a .0) (a .1 .0) (a .1 .1) (tablesOf 𝓤 H 𝓜 (tables 𝓤 H 𝓜 𝓡 γ)) (refusal-known 𝓤 H 𝓜 𝓖 𝓡 γ number) (cited 𝓤 H _ 𝓜 𝓡 γ open′.Symbol.name open′.Symbol.routine opened (open′.Met.met 𝓤 H 𝓜 𝓖 𝓡)) (known-free 𝓤 H 𝓜 𝓖 𝓡) (known-work 𝓤 H 𝓜 𝓖 𝓡) (known-answer 𝓤 H 𝓜 𝓖 𝓡))
+      proves-mut others (plain (λ _. byteAnswer .row)) 𝓤 H 𝓜 𝓖 𝓡 γ name bytes (closed 𝓤 H 𝓜 𝓡) (clauses 𝓤) (λ κs qs b o δ ys a g. walk 𝓤 H (𝓖 .A) (givenOf 𝓤 H 𝓜 𝓖) (𝓜 .mem) (𝓡 .run) κs qs b o δ ys (a .0) (a .1 .0) (a .1 .1) (tablesOf 𝓤 H 𝓜 (tables 𝓤 H 𝓜 𝓡 γ)) (row-known 𝓤 H 𝓜 𝓖 𝓡 γ number) (cited 𝓤 H _ 𝓜 𝓡 γ open′.Symbol.name open′.Symbol.routine opened (open′.Met.met 𝓤 H 𝓜 𝓖 𝓡)) (known-free 𝓤 H 𝓜 𝓖 𝓡) (known-work 𝓤 H 𝓜 𝓖 𝓡) (known-answer 𝓤 H 𝓜 𝓖 𝓡))

@@ -13,7 +13,8 @@ use Rattle.lent.proofs.Records.{device}
 use Rattle.lent.proofs.Walk.{Walk, proves}
 use Rattle.lent.proofs.Params.{Kind, outers, Args, spelled, told, machine, Good, stays, goes}
 use Rattle.lent.proofs.call_refusal as call-refusal
-use Rattle.shapes.proofs.Steps.{ref, CallRefusal}
+use Rattle.lent.proofs.row_refusal as row-refusal
+use Rattle.shapes.proofs.Steps.{ref, CallRefusal, RowRefusal}
 
 module _ (M : Type 1) where
   abbrev pub Known : Routine → ((𝓤 : URA M) (H : Heap 𝓤) → Atoms 𝓤 → Contract 𝓤) → Type 2
@@ -51,3 +52,6 @@ module _ {k : ℕ} (Ks : List (Kind k)) (R : Slot (suc k)) where
 
 pub refusal-known : {M : Type 1} (𝓤 : URA M) (H : Heap 𝓤) (𝓜 : Model 𝓤 H) (𝓖 : GhostRules 𝓤 H) (𝓡 : Running 𝓤 H 𝓜) (γ : routine.Env) → γ call-refusal.Symbol.name ≡ call-refusal.Symbol.routine → Triple 𝓤 (tables 𝓤 H 𝓜 𝓡 γ .C call-refusal.Symbol.name) (CallRefusal 𝓤 H (𝓖 .A) (𝓜 .mem) (𝓡 .run))
 refusal-known 𝓤 H 𝓜 𝓖 𝓡 γ e = cited 𝓤 H _ 𝓜 𝓡 γ call-refusal.Symbol.name call-refusal.Symbol.routine e (call-refusal.Met.met 𝓤 H 𝓜 𝓖 𝓡)
+
+pub row-known : {M : Type 1} (𝓤 : URA M) (H : Heap 𝓤) (𝓜 : Model 𝓤 H) (𝓖 : GhostRules 𝓤 H) (𝓡 : Running 𝓤 H 𝓜) (γ : routine.Env) → γ row-refusal.Symbol.name ≡ row-refusal.Symbol.routine → Triple 𝓤 (tables 𝓤 H 𝓜 𝓡 γ .C row-refusal.Symbol.name) (RowRefusal 𝓤 H (𝓖 .A) (𝓜 .mem) (𝓡 .run))
+row-known 𝓤 H 𝓜 𝓖 𝓡 γ e = cited 𝓤 H _ 𝓜 𝓡 γ row-refusal.Symbol.name row-refusal.Symbol.routine e (row-refusal.Met.met 𝓤 H 𝓜 𝓖 𝓡)

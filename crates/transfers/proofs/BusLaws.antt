@@ -6,10 +6,11 @@
 --     write-free, write-open, read-free, read-open         a byte's outcome: where it reaches none, and where it reaches one
 -- Assumes nothing.
 use Rattle.ground.proofs.Names.{ℕ, zero, suc, _-_, _≤_, _<_, arith, Bool, true, false, _&&_, List, [], _∷_, _≡_, refl, ap, _∙_, eqb, leb, ltb, length, getD, set, take, eqb-true, le-leb, leb-true, ltb-true, if, and-left, and-right, passed}
-use Rattle.refusals.specs.Refusals.{driverRefusal, soundRefusal, clashRefusal, addressRefusal, firstOf}
+use Rattle.refusals.specs.Refusals.{soundRefusal, clashRefusal, addressRefusal, familyRefusal, firstOf}
 use Rattle.device.specs.PowerUp.{powerUp}
+use Rattle.device.specs.Families.{families}
 use Rattle.device.specs.declared.Device.{Device}
-use Rattle.calls.specs.CallRefusals.{allSound}
+use Rattle.calls.specs.CallRefusals.{familiesBelow, allSound}
 use Rattle.calls.proofs.Accepted.{each-zero}
 use Rattle.bus.specs.declared.Bus.{Bus}
 use Rattle.bus.specs.Straps.{matched, distinct, sevenBits}
@@ -20,7 +21,7 @@ use Rattle.bus.specs.BusServed.{given, asked, served, nobody, putReply, askedRe
 use Rattle.bus.specs.BusOutcome.{number, busAfter, partsAfter, reply, BusOutcome, busOutcome}
 use Rattle.bus.proofs.States.{free-all}
 use Rattle.bus.proofs.Bytes.{state-part, state-free, bus-state}
-use Rattle.pass.specs.Found.{callRefusal}
+use Rattle.pass.specs.Found.{rowRefusal}
 use Rattle.transfers.specs.Transfers.{refusalFrom, moved, partOpen, putAnswer, writeFree, readFree, readOpen}
 use Rattle.transfers.specs.declared.BusAnswer.{BusAnswer}
 use Rattle.transfers.specs.declared.ByteAnswer.{ByteAnswer}
@@ -38,27 +39,26 @@ module _ (ds : List Device) (b : Bus) (σ : List ℕ) where
 
   -- as it is found
   abbrev pub foundFrom : ℕ
-  foundFrom = refusalFrom (callRefusal ds 1 0) n b σ
+  foundFrom = refusalFrom (rowRefusal ds) n b σ
 
-  wire-from : wireRefusal n (allSound ds && soundBus n b) σ ≡ foundFrom
+  wire-from : wireRefusal n (families ds) (allSound ds && soundBus n b) σ ≡ foundFrom
   unfolding refusalFrom
-  wire-from = go (ltb 0 n && ltb n 17) refl (allSound ds) (soundBus n b)
+  wire-from = go (ltb 0 n && ltb n 17) (allSound ds) (soundBus n b) (distinct (take n σ)) (sevenBits (take n σ)) (familiesBelow 1 (families ds))
     where
-      there : ltb 0 n && ltb n 17 ≡ true → driverRefusal n 1 ≡ 0
-      there e = rw (le-leb 1 n (ltb-true 0 n (and-left (ltb 0 n) (ltb n 17) e)))
-
-      go : (c : Bool) → ltb 0 n && ltb n 17 ≡ c → (s t : Bool)
-          → firstOf (if c 0 1 ∷ soundRefusal (s && t) ∷ clashRefusal (distinct (take n σ)) ∷ addressRefusal (sevenBits (take n σ)) ∷ [])
-          ≡ firstOf (firstOf (if c 0 1 ∷ driverRefusal n 1 ∷ 0 ∷ soundRefusal s ∷ []) ∷ soundRefusal t ∷ clashRefusal (distinct (take n σ)) ∷ addressRefusal (sevenBits (take n σ)) ∷ [])
-      go true e true t = rw (there e)
-      go true e false t = rw (there e)
-      go false e s t = refl
+      go : (c s t d e f : Bool)
+          → firstOf (if c 0 1 ∷ soundRefusal (s && t) ∷ clashRefusal d ∷ addressRefusal e ∷ familyRefusal f ∷ [])
+          ≡ firstOf (if (eqb (firstOf (if c 0 1 ∷ soundRefusal s ∷ familyRefusal f ∷ [])) 14) 0 (firstOf (if c 0 1 ∷ soundRefusal s ∷ familyRefusal f ∷ []))
+          ∷ soundRefusal t ∷ clashRefusal d ∷ addressRefusal e ∷ firstOf (if c 0 1 ∷ soundRefusal s ∷ familyRefusal f ∷ []) ∷ [])
+      go true true t d e true = refl
+      go true true t d e false = refl
+      go true false t d e f = refl
+      go false s t d e f = refl
 
   -- what a number of 0 tells of the bus state
   found-sound : foundFrom ≡ 0 → (b .part ≤ n) × (b .phase < 3)
   unfolding refusalFrom
   found-sound z =
-      let each = each-zero (callRefusal ds 1 0 ∷ soundRefusal (soundBus n b) ∷ clashRefusal (distinct (take n σ)) ∷ addressRefusal (sevenBits (take n σ)) ∷ []) z in
+      let each = each-zero (if (eqb (rowRefusal ds) 14) 0 (rowRefusal ds) ∷ soundRefusal (soundBus n b) ∷ clashRefusal (distinct (take n σ)) ∷ addressRefusal (sevenBits (take n σ)) ∷ rowRefusal ds ∷ []) z in
       let t : soundBus n b ≡ true = passed (soundBus n b) 0 6 (each 1) .0 in
       (leb-true (b .part) n (and-left (leb (b .part) n) (ltb (b .phase) 3) t), ltb-true (b .phase) 3 (and-right (leb (b .part) n) (ltb (b .phase) 3) t))
 
@@ -77,7 +77,7 @@ module _ (ds : List Device) (b : Bus) (σ : List ℕ) where
 
   -- ---- a byte
   abbrev reach : ℕ
-  reach = partOpen (callRefusal ds 1 0) n b σ
+  reach = partOpen (rowRefusal ds) n b σ
 
   -- one that reaches an open transfer is served, and its part is there
   pub record Reached : Type 0 where
@@ -124,11 +124,11 @@ module _ (ds : List Device) (b : Bus) (σ : List ℕ) where
   get-free : (p : ℕ) → (served get (freeAt p) ds ≡ ds) × (givenBack n σ get (freeAt p) ds ≡ nobody)
   get-free p = free-all (λ s. (served get s ds ≡ ds) × (givenBack n σ get s ds ≡ nobody)) (refl, refl) (refl, refl) (refl, refl) p
 
-  pub write-free : (v : ℕ) → reach ≡ 0 → busOutcome σ (put v) b ds ≡ answeredTo (writeFree (callRefusal ds 1 0) n b σ v) ds
+  pub write-free : (v : ℕ) → reach ≡ 0 → busOutcome σ (put v) b ds ≡ answeredTo (writeFree (rowRefusal ds) n b σ v) ds
   unfolding number busAfter partsAfter reply
   write-free v h = go (eqb foundFrom 0) refl
     where
-      go : (t : Bool) → eqb foundFrom 0 ≡ t → busOutcome σ (put v) b ds ≡ answeredTo (writeFree (callRefusal ds 1 0) n b σ v) ds
+      go : (t : Bool) → eqb foundFrom 0 ≡ t → busOutcome σ (put v) b ds ≡ answeredTo (writeFree (rowRefusal ds) n b σ v) ds
       go true e =
           let z : foundFrom ≡ 0 = eqb-true foundFrom 0 e in
           let same : served (put v) (stateOf b) ds ≡ ds = ap (λ (s : State). served (put v) s ds) (free h z .0) ∙ put-free v (b .phase) in
@@ -139,11 +139,11 @@ module _ (ds : List Device) (b : Bus) (σ : List ℕ) where
   unfolding number busAfter partsAfter reply
   write-open v r = rw (wire-from, r .zero, put-two 0 (stateOf b), r .state)
 
-  pub read-free : reach ≡ 0 → busOutcome σ get b ds ≡ answeredTo (readFree (callRefusal ds 1 0) n b σ) ds
+  pub read-free : reach ≡ 0 → busOutcome σ get b ds ≡ answeredTo (readFree (rowRefusal ds) n b σ) ds
   unfolding number busAfter partsAfter reply
   read-free h = go (eqb foundFrom 0) refl
     where
-      go : (t : Bool) → eqb foundFrom 0 ≡ t → busOutcome σ get b ds ≡ answeredTo (readFree (callRefusal ds 1 0) n b σ) ds
+      go : (t : Bool) → eqb foundFrom 0 ≡ t → busOutcome σ get b ds ≡ answeredTo (readFree (rowRefusal ds) n b σ) ds
       go true e =
           let z : foundFrom ≡ 0 = eqb-true foundFrom 0 e in
           rw (wire-from, z, free h z .1, free h z .0, get-free (b .phase) .0, get-free (b .phase) .1)

@@ -6,6 +6,7 @@ use Rattle.bus.specs.Straps.{matched, distinct, sevenBits}
 use Rattle.bus.specs.States.{command, reading, transfer, busOf}
 use Rattle.bus.specs.BusServed.{opened, slaveReply}
 use Rattle.bus.proofs.Bytes.{slave-taken}
+use Rattle.refusals.proofs.RefusalLaws.{first-last}
 use Rattle.transfers.specs.Transfers.{few, refusalFrom, partOpen, byteAnswer, putAnswer, writeFree}
 
 -- the first n of sixteen straps
@@ -18,26 +19,26 @@ take-few n σ l = go (ltb n 16) refl
 
 module _ (early n : ℕ) (b : Bus) (σ : List ℕ) where
   -- by the records
-  pub early-decides : (early ≡ 0 → ⊥) → early ≡ refusalFrom early n b σ
+  pub early-decides : (k : ℕ) → k ≡ if (eqb early 14) 0 early → (k ≡ 0 → ⊥) → k ≡ refusalFrom early n b σ
   unfolding refusalFrom
-  early-decides e = rw (ne-eqb early 0 e)
+  early-decides k p e = rw (← p, ne-eqb k 0 e)
 
   -- by the bus state: its part, its phase
-  pub part-decides : early ≡ 0 → n < b .part → 7 ≡ refusalFrom early n b σ
+  pub part-decides : (k : ℕ) → k ≡ if (eqb early 14) 0 early → k ≡ 0 → n < b .part → 7 ≡ refusalFrom early n b σ
   unfolding refusalFrom
-  part-decides e h = rw (eq-eqb early 0 e, lt-leb (b .part) n h)
+  part-decides k p e h = rw (← p, e, lt-leb (b .part) n h)
 
-  pub phase-decides : early ≡ 0 → b .part ≤ n → 3 ≤ b .phase → 7 ≡ refusalFrom early n b σ
+  pub phase-decides : (k : ℕ) → k ≡ if (eqb early 14) 0 early → k ≡ 0 → b .part ≤ n → 3 ≤ b .phase → 7 ≡ refusalFrom early n b σ
   unfolding refusalFrom
-  phase-decides e h g = rw (eq-eqb early 0 e, le-leb (b .part) n h, le-ltb (b .phase) 3 g)
+  phase-decides k p e h g = rw (← p, e, le-leb (b .part) n h, le-ltb (b .phase) 3 g)
 
   -- by the straps, of which m are looked at
-  pub straps-decide : length σ ≡ 16 → early ≡ 0 → b .part ≤ n → b .phase < 3 → (m : ℕ) → m ≡ few n → (d s : Bool) → distinct (take m σ) ≡ d → sevenBits (take m σ) ≡ s → if d (if s 0 11) 10 ≡ refusalFrom early n b σ
+  pub straps-decide : (k : ℕ) → k ≡ if (eqb early 14) 0 early → length σ ≡ 16 → k ≡ 0 → b .part ≤ n → b .phase < 3 → (m : ℕ) → m ≡ few n → (d s : Bool) → distinct (take m σ) ≡ d → sevenBits (take m σ) ≡ s → if d (if s early 11) 10 ≡ refusalFrom early n b σ
   unfolding refusalFrom
-  straps-decide l e h g m f d s p q = rw (eq-eqb early 0 e, le-leb (b .part) n h, lt-ltb (b .phase) 3 g, ← take-few n σ l, ← f, p, q) (go d s)
+  straps-decide k r l e h g m f d s p q = rw (← r, e, le-leb (b .part) n h, lt-ltb (b .phase) 3 g, ← take-few n σ l, ← f, p, q) (go d s)
     where
-      go : (d s : Bool) → _≡_ {A = ℕ} (if d (if s 0 11) 10) (if (eqb (if d 0 10) 0) (if (eqb (if s 0 11) 0) 0 (if s 0 11)) (if d 0 10))
-      go true true = refl
+      go : (d s : Bool) → _≡_ {A = ℕ} (if d (if s early 11) 10) (if (eqb (if d 0 10) 0) (if (eqb (if s 0 11) 0) (if (eqb early 0) 0 early) (if s 0 11)) (if d 0 10))
+      go true true = sym (first-last early)
       go true false = refl
       go false s = refl
 

@@ -24,9 +24,10 @@ abbrev pub laterNone : ℕ → List ℕ → ℕ → ℕ → Bool
 laterNone n σ a i = eqb (placeOf a (drop i (take n σ))) 0
 
 -- the number of a start, a byte or a stop, where early is that of the records
+-- (14, of the records' families, comes after 7 of the bus state, 10 and 11)
 unfoldable pub refusalFrom : ℕ → ℕ → Bus → List ℕ → ℕ
 refusalFrom early n b σ =
-    firstOf (early ∷ soundRefusal (soundBus n b) ∷ clashRefusal (distinct (take n σ)) ∷ addressRefusal (sevenBits (take n σ)) ∷ [])
+    firstOf (if (eqb early 14) 0 early ∷ soundRefusal (soundBus n b) ∷ clashRefusal (distinct (take n σ)) ∷ addressRefusal (sevenBits (take n σ)) ∷ early ∷ [])
 
 -- a start's or a stop's answer, with the bus state that it leaves where it is served
 abbrev pub moved : ℕ → Bus → Bus → BusAnswer

@@ -2,7 +2,9 @@
 ghost use Prim.Native.Nat.{_≤_};
 ghost use mathlib.Core.List.{[], _∷_};
 ghost use mathlib.Core.Path.{_≡_};
+ghost use lib.Dec.{eqb};
 ghost use lib.ListN.{take};
+ghost use Rattle.ground.specs.Choice.{if};
 ghost use Rattle.bus.specs.Straps.{matched, distinct, sevenBits};
 ghost use Rattle.bus.specs.States.{slave, idle, useAt, busOf};
 ghost use Rattle.bus.specs.BusServed.{opened, given, asked, slaveReply};
@@ -104,12 +106,20 @@ fn seven_bits(straps: Straps, n: usize) -> bool
     true
 }
 
+// A number but 14, which comes after 10 and 11.
+fn unless_14(early: u8) -> u8
+    ensures { λ r. ⌜ r ≡ if (eqb early 14) 0 early ⌝ }
+{
+    if early == 14 { 0 } else { early }
+}
+
 // The number of a start, a byte or a stop on n parts; early is that of their records.
 pub fn refusal(early: u8, n: usize, bus: Bus, straps: Straps) -> u8
     ensures { λ r. ⌜ r ≡ refusalFrom early n bus (straps .addresses) ⌝ }
 {
-    if early != 0 {
-        return early;
+    let first = unless_14(early);
+    if first != 0 {
+        return first;
     }
     if n < bus.part {
         return 7;
@@ -124,7 +134,7 @@ pub fn refusal(early: u8, n: usize, bus: Bus, straps: Straps) -> u8
     if !seven_bits(straps, m) {
         return 11;
     }
-    0
+    early
 }
 
 // A start's or a stop's answer, by its number; left is the bus state that it leaves where it is served.

@@ -15,7 +15,7 @@ pub extern "C" fn max6955_start(parts: &[Device], bus: Bus, straps: Straps) -> B
     ensures { λ r. ⌜ busOutcome (straps .addresses) start bus (now (parts .entry)) ≡ record { number = r .number; bus = r .bus; records = now (parts .entry); back = [] } ⌝ }
 {
     let n = parts.len();
-    let early = lent::call_refusal(parts, 1, 0);
+    let early = lent::row_refusal(parts);
     transfers::start_answer(early, n, bus, straps)
 }
 
@@ -25,7 +25,7 @@ pub extern "C" fn max6955_stop(parts: &[Device], bus: Bus, straps: Straps) -> Bu
     ensures { λ r. ⌜ busOutcome (straps .addresses) stop bus (now (parts .entry)) ≡ record { number = r .number; bus = r .bus; records = now (parts .entry); back = [] } ⌝ }
 {
     let n = parts.len();
-    let early = lent::call_refusal(parts, 1, 0);
+    let early = lent::row_refusal(parts);
     transfers::stop_answer(early, n, bus, straps)
 }
 
@@ -40,7 +40,7 @@ pub extern "C" fn max6955_write(
     ensures { λ r. ⌜ busOutcome (straps .addresses) (put byte) bus (now (parts .entry)) ≡ record { number = r .number; bus = r .bus; records = now (parts .exit); back = r .acknowledged ∷ r .«data» ∷ [] } ⌝ }
 {
     let n = parts.len();
-    let early = lent::call_refusal(parts, 1, 0);
+    let early = lent::row_refusal(parts);
     let part = transfers::part_open(early, n, bus, straps);
     if part == 0 {
         return transfers::write_free(early, n, bus, straps, byte);
@@ -57,7 +57,7 @@ pub extern "C" fn max6955_read(parts: &mut [Device], bus: Bus, straps: Straps) -
     ensures { λ r. ⌜ busOutcome (straps .addresses) get bus (now (parts .entry)) ≡ record { number = r .number; bus = r .bus; records = now (parts .exit); back = r .acknowledged ∷ r .«data» ∷ [] } ⌝ }
 {
     let n = parts.len();
-    let early = lent::call_refusal(parts, 1, 0);
+    let early = lent::row_refusal(parts);
     let part = transfers::part_open(early, n, bus, straps);
     if part == 0 {
         return transfers::read_free(early, n, bus, straps);

@@ -5,7 +5,8 @@ use mathlib.Core.Option.{some as holds}
 use Rattle.lent.proofs.Logic.{_≡_, refl, sym, ap, _∙_, subst, ℕ, List, [], _∷_, lit<, length, URA, fullShare, named, SProp, emp, id⊢, via, fst∗, Lft, GName, Share, ftrue, fat, flft, Memory, Routine, Heap, Tables, Atoms, Fun, givenOf, tables, tablesOf, Given, ‵, _⊛_, _$_, _∵_, !, qed, move, drop, split, join, rewrite, fsplit, fjoin, suffices, frame, done, look, init, forget, stop, from, lit, of-opd, bin, and-then, no-more, returns, enter, params1, pass1, pass0, fmOf, RattleType, owns, Is, shows, RefT, sliceVal, MutSlice, ShrSlice, Room, slice-vals, mut-slice-tells, shr-slice-tells, row, plain, nothing, owned, Bound, tripleOf, Triple, says, Stays, ends-at, yes, raw, use1, use2, feqL, agg, addr, finally, onEntry, gave-slice, goes-gave-slice, Local, local, memorySlot, w16, tyBool, tyUnit, tyRef, tyArray, erased, mut, imm, Place, Operand, Body, seq, Val, vunit, WT, hasTy, flent, Env, Calls, Loops, FmC, Item, put, some, later, Go, Sq, Post, runs, lands, await, pick, feqI, rep, Opds, arr-parts, lft-new, lft-end, lent-back, Array, array-repeat, array-lawful, Held, lends-shr-slice, shares, pointee, uint-copy, uint-lawful, shrSliceOf, sliceTy, peeks, stay-dropped, goes-dropped, call}
 use Rattle.device.specs.declared.Device.{Device}
 use Rattle.calls.specs.Calls.{access as accessCall}
-use Rattle.calls.specs.CallRefusals.{allSound}
+use Rattle.device.specs.Families.{families}
+use Rattle.calls.specs.CallRefusals.{familiesBelow, allSound}
 use Rattle.calls.specs.Outcome.{outcome}
 use Rattle.wire.specs.Shift.{wordsAfter, roomAfter}
 use Rattle.wire.proofs.shift as shift
@@ -65,7 +66,7 @@ module _ {M : Type 1} (𝓤 : URA M) (H : Heap 𝓤) (A : Atoms 𝓤) (W : Given
   old = wordsTo ys zeros m
 
   abbrev nr : ℕ
-  nr = found early (allSound (take m ys))
+  nr = found early (allSound (take m ys)) (familiesBelow 2 (families (take m ys)))
 
   abbrev next : List ℕ
   next = wordsAfter old n clocks (sent .now) (answer .now)

@@ -1,5 +1,6 @@
 -- `chain::max6954_interrupt` has the shape of `Asks.antt`.
 -- Assumes nothing.
+use Rattle.device.specs.Families.{interruptOf}
 use Rattle.calls.specs.Calls.{interrupt}
 use Rattle.chain.proofs.Answers.{interruptAnswer}
 use Rattle.pass.proofs.interrupt_refusal as own
@@ -14,5 +15,5 @@ max6954-interrupt-spec =
     asks-spec own.Symbol.name refused.Symbol.name work.Symbol.name 0 [] (held interruptAnswer) (λ p. interrupt)
     (λ r ds x. x ≡ record { number = r .number; records = ds; back = r .raised ∷ [] })
     (λ p r. r ≡ record { number = p .0; raised = 0 }) (λ n p r ds e. rw e)
-    (λ p r. r ≡ record { number = 0; raised = p .0 .registers .keys .interrupt }) (λ d p r ds z e. rw e)
+    (λ p r. r ≡ record { number = 0; raised = interruptOf (p .0) }) (λ d p r ds z e. rw e)
     this.Code.env this.Key.name this.Code.unfolded refl own.Met.met refused.Met.met work.Met.met

@@ -17,9 +17,9 @@ use Rattle.redraw.proofs.write_list as writing
 use Rattle.lent.proofs.Records.{size, byte, half, device}
 use Rattle.lent.proofs.Walk.{Walk, calls-value, calls-fn, lands-known, proves}
 use Rattle.lent.proofs.Locals.{span, values, starts, leaves, var, sets, resets, lands-in, count, target}
-use Rattle.lent.proofs.call_refusal as fn-number
+use Rattle.lent.proofs.row_refusal as fn-number
 use Rattle.chain.proofs.Answers.{planAnswer}
-use Rattle.shapes.proofs.Steps.{CallRefusal, numbers, unit-typed}
+use Rattle.shapes.proofs.Steps.{RowRefusal, rows, unit-typed}
 use Rattle.chain.proofs.max6954_plan as planning
 
 abbrev R : RattleType
@@ -63,7 +63,7 @@ module _ {M : Type 1} (𝓤 : URA M) (H : Heap 𝓤) (A : Atoms 𝓤) (W : Given
   abbrev at-writing : Bound 𝓤 H A writing.signature
   at-writing = ((κ, (κ₁, (κ₂, tt))), (q, (q₁, (q₂, tt))), tt, (x, (number, (wanted, (list, (most, tt))))), (slice-vals x, (byte .val number ∷ [], (slice-vals wanted, (slice-vals list, (size .val most ∷ [], tt))))))
 
-  walk : (𝓣 : Tables 𝓤 H) → Triple 𝓤 (𝓣 .C fn-number.Symbol.name) (CallRefusal 𝓤 H A mem run) → Triple 𝓤 (𝓣 .C own′.Symbol.name) (tripleOf 𝓤 H A own′.signature (own′.spec 𝓤 H A mem run))
+  walk : (𝓣 : Tables 𝓤 H) → Triple 𝓤 (𝓣 .C fn-number.Symbol.name) (RowRefusal 𝓤 H A mem run) → Triple 𝓤 (𝓣 .C own′.Symbol.name) (tripleOf 𝓤 H A own′.signature (own′.spec 𝓤 H A mem run))
       → Triple 𝓤 (𝓣 .C reaching.Symbol.name) (tripleOf 𝓤 H A reaching.signature (reaching.spec 𝓤 H A mem run)) → Triple 𝓤 (𝓣 .C room′.Symbol.name) (tripleOf 𝓤 H A room′.signature (room′.spec 𝓤 H A mem run))
       → Triple 𝓤 (𝓣 .C writing.Symbol.name) (tripleOf 𝓤 H A writing.signature (writing.spec 𝓤 H A mem run)) → Triple 𝓤 (𝓣 .C last′.Symbol.name) (tripleOf 𝓤 H A last′.signature (last′.spec 𝓤 H A mem run))
       → Room R n → Room (byte .row) (length (wanted .now)) → Room S (length (list .now)) → Walk 𝓤 H A planning.ended stayed (planning.clauses 𝓤 H A mem run) 𝓣 planning.Code.function y tt
@@ -73,7 +73,7 @@ module _ {M : Type 1} (𝓤 : URA M) (H : Heap 𝓤) (A : Atoms 𝓤) (W : Given
       -- [_0; _1; ..; _12; that they die; the tokens; what the parameters own]
       sets ! (of-opd ! (count ! 1 refl refl)) 4 refl refl (tt, record { fits = room .0 }) $ move ! (14 ∷ 15 ∷ []) $ split ! $ move ! (2 ∷ []) $ fsplit ! $ move ! (0 ∷ 2 ∷ []) $
       -- [the chain; its token; what the others own; the other tokens; _0, from 4; ..]
-      numbers ! (fmOf 𝓤 H (W .laws) 𝓣) mem run known-number κ q x 1 0 (refl, lit< tt) (refl, lit< tt) (λ i s. and-then ! (var ! 5 refl refl) (and-then ! (lit ! tt) (and-then ! (lit ! tt) (no-more !)))) (λ is-early wt-early. lands-in ! 9 refl refl wt-early $
+      rows ! (fmOf 𝓤 H (W .laws) 𝓣) mem run known-number κ q x (λ i s. and-then ! (var ! 5 refl refl) (no-more !)) (λ is-early wt-early. lands-in ! 9 refl refl wt-early $
       sets ! (of-opd ! (count ! 6 refl refl)) 13 refl refl (tt, record { fits = room₁ .0 }) $
       calls-value ! (fmOf 𝓤 H (W .laws) 𝓣) (byte ∷ size ∷ size ∷ []) byte (λ _. emp 𝓤) (λ a. firstOf (a .0 ∷ wantedRefusal (a .1 .0) (a .1 .1 .0) ∷ [])) known-own (early ys (wanted .now), (n, (length (wanted .now), tt))) (is-early, ((refl, room .0), ((refl, room₁ .0), tt))) (id⊢ 𝓤 _)
       (and-then ! (var ! 10 refl refl) (and-then ! (var ! 9 refl refl) (and-then ! (var ! 14 refl refl) (no-more !)))) (λ is-own wt-own. lands-in ! 10 refl refl wt-own $

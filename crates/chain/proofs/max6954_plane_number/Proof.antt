@@ -1,7 +1,7 @@
 -- `chain::max6954_plane_number` has the shape of `Asks.antt`.
 -- Assumes nothing.
 use Rattle.calls.specs.Calls.{plane}
-use Rattle.blink.proofs.plane_refusal as own
+use Rattle.pass.proofs.part_refusal as own
 use Rattle.answers.proofs.number_refused as refused
 use Rattle.answers.proofs.number_served as work
 use Rattle.shapes.proofs.Names.{_≡_, refl, sym, [], _∷_, w8, size, byte, held, lent, asks-spec}

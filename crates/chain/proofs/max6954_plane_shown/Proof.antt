@@ -4,7 +4,7 @@ use Rattle.device.specs.Steps.{shownPlane}
 use Rattle.calls.specs.Calls.{planeShown}
 use Rattle.calls.specs.Served.{planeCode}
 use Rattle.chain.proofs.Answers.{shownAnswer}
-use Rattle.blink.proofs.plane_refusal as own
+use Rattle.pass.proofs.part_refusal as own
 use Rattle.answers.proofs.plane_shown_refused as refused
 use Rattle.answers.proofs.plane_shown as work
 use Rattle.shapes.proofs.Names.{_≡_, refl, [], _∷_, w8, size, held, lent, asks-spec}

@@ -5,7 +5,7 @@ use Rattle.display.specs.Pins.{pinCode, segmentsOf}
 use Rattle.display.specs.declared.Pin.the-variants.{NotDriven}
 use Rattle.calls.specs.Calls.{segments}
 use Rattle.chain.proofs.Answers.{segmentAnswer}
-use Rattle.shown_pins.proofs.segments_refusal as own
+use Rattle.pass.proofs.segments_refusal as own
 use Rattle.answers.proofs.segments_refused as refused
 use Rattle.shown_pins.proofs.segments as work
 use Rattle.shapes.proofs.Names.{_≡_, refl, [], _∷_, w16, size, held, lent, asks-spec}

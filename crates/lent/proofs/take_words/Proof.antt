@@ -1,32 +1,37 @@
--- `lent::take_words` meets its contract: a walk of its MIR, by hand. Both slices are opened once, before the loop. A turn copies one word out. Where its address is 0x20 or above the record is opened once,
--- two of its bytes are read and stored where they lie, and its shift word and answer mark are stored; else the record is copied out, `taken` is called and its result stored.
+-- `lent::take_words` meets its contract: a walk of its MIR, by hand. Both slices are opened once, before the loop. A turn copies one word out. Where its address is 0x20 or above and the driver of the old family, the record is opened once,
+-- two of its bytes are read and stored where they lie, and its shift word and answer mark are stored; where the address is below, its registers are copied out and stored, and the same two; of a MAX6957 the record is copied out, `ports_taken` is called and its result stored.
 -- Assumes nothing.
-use Rattle.ground.proofs.Names.{arith, Holds, _++_, none, _/_, _%_, true, lt-ltb}
+use Rattle.ground.proofs.Names.{arith, Holds, _++_, none, Bool, true, false, not}
 use mathlib.Core.Option.{some}
-use Rattle.lent.proofs.Logic.{_≡_, refl, sym, ap, _∙_, subst, ℕ, _+_, _<_, _^_, List, [], _∷_, lit<, ltb→lt, length, getD, set, URA, fullShare, named, tyPtr, tyBool, SProp, emp, id⊢, via, fst∗, Lft, GName, Share, ftrue, flft, Memory, Routine, Heap, Tables, Atoms, Fun, givenOf, tables, tablesOf, Given, ‵, _⊛_, _$_, _∵_, !, qed, move, keep, split, join, rewrite, fsplit, fjoin, suffices, frame, done, look, init, store, store-raw, forget, stop, hop, from, load, lit, of-opd, bin, and-then, no-more, assigns, assigns-last, returns, enter, params1, pass1, pass0, fmOf, RattleType, owns, Is, RefT, pureI, sliceVal, MutSlice, ShrSlice, Room, at-slice, slice-vals, mut-slice-tells, shr-slice-tells, row, opens-slice, closes-slice, plain, nothing, Bound, tripleOf, Triple, cited, says, Stays, stay-slice, goes-slice, ends-at, yes, Local, Ty, Body, tyUnit, tyRef, mut, next, Item, Post, post, prop, runs, Sq, store-in, addr, Val, vunit, feqI, unit-lit, lies, pointee, pureL, shrSliceOf, sliceTy, stay-dropped, goes-dropped}
+use Rattle.lent.proofs.Logic.{_≡_, refl, sym, ap, _∙_, subst, ℕ, _+_, _<_, _^_, List, [], _∷_, lit<, length, getD, set, URA, fullShare, named, tyPtr, tyBool, SProp, emp, id⊢, via, fst∗, Lft, GName, Share, ftrue, flft, Memory, Routine, Heap, Tables, Atoms, Fun, givenOf, tables, tablesOf, Given, ‵, _⊛_, _$_, _∵_, !, qed, move, keep, split, join, rewrite, fsplit, fjoin, suffices, frame, done, look, init, store, store-raw, forget, stop, hop, from, load, lit, of-opd, bin, branches, and-then, no-more, assigns, assigns-last, returns, enter, params1, pass1, pass0, fmOf, RattleType, owns, Is, RefT, pureI, sliceVal, MutSlice, ShrSlice, Room, at-slice, slice-vals, mut-slice-tells, shr-slice-tells, row, opens-slice, closes-slice, plain, nothing, Bound, tripleOf, Triple, cited, says, Stays, stay-slice, goes-slice, ends-at, yes, Local, Ty, Body, tyUnit, tyRef, mut, next, Item, Post, post, prop, runs, Sq, store-in, look-in, addr, Val, vunit, feqI, unit-lit, lies, pointee, pureL, shrSliceOf, sliceTy, stay-dropped, goes-dropped}
 use Rattle.device.specs.PowerUp.{powerUp}
-use Rattle.device.specs.Taken.{taken}
+use Rattle.device.specs.Families.{portsTaken, takes}
 use Rattle.device.specs.declared.Device.{Device}
-use Rattle.device.proofs.Device.taken as work
 use Rattle.pass.specs.Found.{inRoom}
 use Rattle.pass.specs.OneByOne.{takenTo}
 use Rattle.pass.proofs.FoundLaws.{in-room-below, in-room-le}
 use Rattle.pass.proofs.StepLaws.{taken-start, taken-more, length-taken}
 use Rattle.pass.proofs.in_room as room′
-use Rattle.lent.proofs.Records.{size, byte, half, half-sized, device, recordBytes, device-sized, planes-of, is-stored, Cell, at-p0, at-p1, at-shift, at-mark, in-p0, in-p1, in-shift, in-mark}
+use Rattle.lent.proofs.Records.{size, byte, half, half-sized, registers, device, recordBytes, device-sized, planes-of, is-stored, Cell, at-p0, at-p1, at-shift, at-mark, at-family, at-registers, row-family, row-registers, row-shift, row-mark, family-is, registers-of, is-replaced, in-p0, in-p1, in-shift, in-mark}
 use Rattle.lent.proofs.Parts.{part, rest}
 use Rattle.lent.proofs.Locals.{span, values, envOf, held, starts, leaves, var, sets, resets, lands-in, lands-over, start, count}
-use Rattle.lent.proofs.Elements.{points, takes-out, puts-in, copies}
+use Rattle.lent.proofs.Elements.{points, takes-out, puts-back, puts-in, copies}
 use Rattle.lent.proofs.Slices.{sharedTy, Spots, goes-over, copies-out}
 use Rattle.lent.proofs.Places.{bytes, long, at-most, look-byte, store-byte, meets}
-use Rattle.high_words.specs.HighWords.{isHigh, digitOf, newP0, newP1, newShift, newMark, highTaken}
-use Rattle.high_words.proofs.HighLaws.{high-taken}
-use Rattle.high_words.proofs.is_high as high′
+use Rattle.high_words.specs.HighWords.{inPlace, digitOf, newP0, newP1, newShift, newMark, highTaken}
+use Rattle.high_words.proofs.HighLaws.{in-place}
+use Rattle.high_words.specs.LowWords.{isPorts, lowRegisters, lowShift, lowTaken}
+use Rattle.high_words.proofs.LowLaws.{low-place, ports-place}
+use Rattle.high_words.proofs.in_place as high′
 use Rattle.high_words.proofs.digit as at′
 use Rattle.high_words.proofs.new_p0 as p0′
 use Rattle.high_words.proofs.new_p1 as p1′
 use Rattle.high_words.proofs.new_shift as shift′
 use Rattle.high_words.proofs.new_mark as mark′
+use Rattle.high_words.proofs.is_ports as ports′
+use Rattle.high_words.proofs.ports_taken as work
+use Rattle.high_words.proofs.low_shift as low-shift′
+use Rattle.high_words.proofs.low_registers as low-registers′
 use Rattle.lent.proofs.Walk.{Walk, flag, calls-value, proves}
 use Rattle.lent.proofs.take_words as take-words
 
@@ -41,19 +46,32 @@ stayed = (stay-slice (0 ∷ []) tt (plain (λ _. R)), (stay-dropped (shrSliceOf 
 
 -- the locals
 abbrev ls : List Local
-ls = values (tyUnit ∷ sliceTy (tyRef (named 0) mut (pointee (R .written))) ∷ sharedTy half (named 1) ∷ size .ty ∷ size .ty ∷ half .ty ∷ size .ty ∷ byte .ty ∷ byte .ty ∷ size .ty ∷ size .ty ∷ tyBool ∷ size .ty ∷ tyPtr ∷ half .ty ∷ tyBool ∷ size .ty ∷ tyPtr ∷ tyPtr ∷ tyPtr ∷ byte .ty ∷ tyPtr ∷ tyPtr ∷ tyPtr ∷ tyPtr ∷ tyPtr ∷ tyPtr ∷ tyPtr ∷ tyPtr ∷ tyPtr ∷ half .ty ∷ tyPtr ∷ tyPtr ∷ device .ty ∷ size .ty ∷ tyPtr ∷ device .ty ∷ size .ty ∷ tyPtr ∷ [])
+ls = values (tyUnit ∷ sliceTy (tyRef (named 0) mut (pointee (R .written))) ∷ sharedTy half (named 1) ∷ size .ty ∷ size .ty ∷ half .ty ∷ byte .ty ∷ size .ty ∷ byte .ty ∷ byte .ty ∷ registers .ty ∷ size .ty ∷ size .ty ∷ tyBool ∷ size .ty ∷ tyPtr ∷ half .ty ∷ tyPtr ∷ tyBool ∷ size .ty ∷ tyPtr ∷ tyPtr ∷ tyPtr ∷ byte .ty ∷ tyPtr ∷ tyPtr ∷ tyPtr ∷ tyPtr ∷ tyPtr ∷ tyPtr ∷ tyPtr ∷ tyPtr ∷ tyPtr ∷ half .ty ∷ tyPtr ∷ tyPtr ∷ tyBool ∷ device .ty ∷ size .ty ∷ tyPtr ∷ device .ty ∷ size .ty ∷ tyPtr ∷ size .ty ∷ tyPtr ∷ half .ty ∷ tyPtr ∷ registers .ty ∷ tyPtr ∷ byte .ty ∷ tyPtr ∷ [])
 
--- those of a turn's two ways, but i's
+-- those of a turn's three ways, but i's, the family's and the tests'
 abbrev ways : (ℕ → ℕ) → List (Ty × ℕ)
-ways l = (sliceTy (tyRef (named 0) mut (pointee (R .written))), l 1) ∷ (half .ty, l 5) ∷ (size .ty, l 6) ∷ (byte .ty, l 7) ∷ (byte .ty, l 8) ∷ (size .ty, l 16) ∷ (tyPtr, l 17) ∷ (tyPtr, l 18) ∷ (tyPtr, l 19) ∷ (byte .ty, l 20) ∷ (tyPtr, l 21) ∷ (tyPtr, l 22) ∷ (tyPtr, l 23) ∷ (tyPtr, l 24) ∷ (tyPtr, l 25) ∷ (tyPtr, l 26) ∷ (tyPtr, l 27) ∷ (tyPtr, l 28) ∷ (tyPtr, l 29) ∷ (half .ty, l 30) ∷ (tyPtr, l 31) ∷ (tyPtr, l 32) ∷ (device .ty, l 33) ∷ (size .ty, l 34) ∷ (tyPtr, l 35) ∷ (device .ty, l 36) ∷ (size .ty, l 37) ∷ (tyPtr, l 38) ∷ []
+ways l = (sliceTy (tyRef (named 0) mut (pointee (R .written))), l 1) ∷ (half .ty, l 5) ∷ (size .ty, l 7) ∷ (byte .ty, l 8) ∷ (byte .ty, l 9) ∷ (size .ty, l 19) ∷ (tyPtr, l 20) ∷ (tyPtr, l 21) ∷ (tyPtr, l 22) ∷ (byte .ty, l 23) ∷ (tyPtr, l 24) ∷ (tyPtr, l 25) ∷ (tyPtr, l 26) ∷ (tyPtr, l 27) ∷ (tyPtr, l 28) ∷ (tyPtr, l 29) ∷ (tyPtr, l 30) ∷ (tyPtr, l 31) ∷ (tyPtr, l 32) ∷ (half .ty, l 33) ∷ (tyPtr, l 34) ∷ (tyPtr, l 35) ∷ (device .ty, l 37) ∷ (size .ty, l 38) ∷ (tyPtr, l 39) ∷ (device .ty, l 40) ∷ (size .ty, l 41) ∷ (tyPtr, l 42) ∷ (size .ty, l 43) ∷ (tyPtr, l 44) ∷ (half .ty, l 45) ∷ (tyPtr, l 46) ∷ (registers .ty, l 47) ∷ (tyPtr, l 48) ∷ (byte .ty, l 49) ∷ (tyPtr, l 50) ∷ (registers .ty, l 10) ∷ []
 
 -- a turn's code
 abbrev turn : Body
 turn = part (part (part (rest (rest (rest (rest (take-words.Code.function .body)))))))
 
+-- where the word's address is below 0x20, or the driver a MAX6957
+abbrev others : Body
+others = rest (part (rest (rest (rest (rest (rest (rest (rest (rest (rest (rest turn)))))))))))
+
 -- the turns
 abbrev m : List Device → List ℕ → ℕ
 m ys ws = inRoom (length ys) (length ws)
+
+-- a test that holds
+held-true : (b : Bool) → Holds b → b ≡ true
+held-true true h = refl
+held-true false h = absurd h
+
+held-false : (b : Bool) → Holds (not b) → b ≡ false
+held-false true h = absurd h
+held-false false h = refl
 
 -- the functions called, met
 record Known {M : Type 1} (𝓤 : URA M) (H : Heap 𝓤) (A : Atoms 𝓤) (mem : Memory → SProp 𝓤) (run : Routine → Fun 𝓤) (𝓣 : Tables 𝓤 H) : Type 1 where
@@ -63,6 +81,9 @@ record Known {M : Type 1} (𝓤 : URA M) (H : Heap 𝓤) (A : Atoms 𝓤) (mem :
   p0 : Triple 𝓤 (𝓣 .C p0′.Symbol.name) (tripleOf 𝓤 H A p0′.signature (p0′.spec 𝓤 H A mem run))
   p1 : Triple 𝓤 (𝓣 .C p1′.Symbol.name) (tripleOf 𝓤 H A p1′.signature (p1′.spec 𝓤 H A mem run))
   shift : Triple 𝓤 (𝓣 .C shift′.Symbol.name) (tripleOf 𝓤 H A shift′.signature (shift′.spec 𝓤 H A mem run))
+  ports : Triple 𝓤 (𝓣 .C ports′.Symbol.name) (tripleOf 𝓤 H A ports′.signature (ports′.spec 𝓤 H A mem run))
+  low-shift : Triple 𝓤 (𝓣 .C low-shift′.Symbol.name) (tripleOf 𝓤 H A low-shift′.signature (low-shift′.spec 𝓤 H A mem run))
+  low-registers : Triple 𝓤 (𝓣 .C low-registers′.Symbol.name) (tripleOf 𝓤 H A low-registers′.signature (low-registers′.spec 𝓤 H A mem run))
   mark : Triple 𝓤 (𝓣 .C mark′.Symbol.name) (tripleOf 𝓤 H A mark′.signature (mark′.spec 𝓤 H A mem run))
   work : Triple 𝓤 (𝓣 .C work.Symbol.name) (tripleOf 𝓤 H A work.signature (work.spec 𝓤 H A mem run))
 
@@ -73,10 +94,10 @@ module _ {M : Type 1} (𝓤 : URA M) (H : Heap 𝓤) (A : Atoms 𝓤) (W : Given
     Way = held 𝓤 ((size .ty, l 4) ∷ ways l) (some (size .val i) ∷ some (sliceVal (b, o) (length ys)) ∷ some (half .val v) ∷ []) ++ Θ
 
     -- what is stored where the word's address is 0x20 or above, in a record whose planes are x0 and x1
-    stores : Known 𝓤 H A mem run 𝓣 → {c f e g w h t a s m : Val} {j₁ j₂ : Item 𝓤} (x0 x1 : List ℕ) → length x0 ≡ 16 → length x1 ≡ 16 → getD x0 (digitOf v) 0 < 2 ^ 8 → getD x1 (digitOf v) 0 < 2 ^ 8
+    stores : Known 𝓤 H A mem run 𝓣 → {c f e g w h t a n r s m : Val} {j₁ j₂ : Item 𝓤} (x0 x1 : List ℕ) → length x0 ≡ 16 → length x1 ≡ 16 → getD x0 (digitOf v) 0 < 2 ^ 8 → getD x1 (digitOf v) 0 < 2 ^ 8
         → (newP0 v (getD x0 (digitOf v) 0) < 2 ^ 8 → newP1 v (getD x1 (digitOf v) 0) < 2 ^ 8 → newShift v (getD x0 (digitOf v) 0) (getD x1 (digitOf v) 0) < 2 ^ 16 → newMark v < 2 ^ 8
-        → Sq W (Cell 𝓤 fullShare b (lies recordBytes o i) c f e g w h t a (bytes (set x0 (digitOf v) (newP0 v (getD x0 (digitOf v) 0)))) (bytes (set x1 (digitOf v) (newP1 v (getD x1 (digitOf v) 0)))) (half .val (newShift v (getD x0 (digitOf v) 0) (getD x1 (digitOf v) 0))) (byte .val (newMark v)) ∷ j₁ ∷ j₂ ∷ Way) (prop (post 𝓤 H p next)))
-        → Sq W (Cell 𝓤 fullShare b (lies recordBytes o i) c f e g w h t a (bytes x0) (bytes x1) s m ∷ j₁ ∷ j₂ ∷ Way) (runs (𝓣 .C) (𝓣 .Λ) (envOf ls l) (part (part (rest (rest (rest (rest (rest (rest (rest turn))))))))) p)
+        → Sq W (Cell 𝓤 fullShare b (lies recordBytes o i) c f e g w h t a n r (bytes (set x0 (digitOf v) (newP0 v (getD x0 (digitOf v) 0)))) (bytes (set x1 (digitOf v) (newP1 v (getD x1 (digitOf v) 0)))) (half .val (newShift v (getD x0 (digitOf v) 0) (getD x1 (digitOf v) 0))) (byte .val (newMark v)) ∷ j₁ ∷ j₂ ∷ Way) (prop (post 𝓤 H p next)))
+        → Sq W (Cell 𝓤 fullShare b (lies recordBytes o i) c f e g w h t a n r (bytes x0) (bytes x1) s m ∷ j₁ ∷ j₂ ∷ Way) (runs (𝓣 .C) (𝓣 .Λ) (envOf ls l) (part (part (rest (rest (rest (rest (rest (rest (rest (rest (rest (rest turn)))))))))))) p)
     stores known x0 x1 long0 long1 is-p0 is-p1 k =
         let at< : digitOf v < 16 = omega arith in
         -- [the record; what it owns; the others; _4; _1; _5; ..; _8; _16; ..; _38]
@@ -98,35 +119,56 @@ module _ {M : Type 1} (𝓤 : URA M) (H : Heap 𝓤) (A : Atoms 𝓤) (W : Given
         points ! recordBytes tt i (length ys) b o below (room .1) (var ! 3 refl refl) (from ! (stop !)) (λ wt. store ! 9 refl wt) (start ! 4 refl refl) (var ! 9 refl refl) (from ! (stop !)) (init ! 25 refl (tt, tt)) $ assigns-last ! (of-opd ! (var ! 13 refl refl)) (from ! (hop ! (look ! 25 refl) (at-mark !))) (store-in ! 0 (in-mark !) wt-m) $
         forget ! 6 refl $ forget ! 7 refl $ forget ! 8 refl $ forget ! 9 refl $ forget ! 10 refl $ forget ! 11 refl $ forget ! 12 refl $ forget ! 13 refl $ forget ! 14 refl $ forget ! 15 refl $ forget ! 16 refl $ forget ! 17 refl $ forget ! 18 refl $ forget ! 19 refl $ forget ! 20 refl $ forget ! 21 refl $ forget ! 22 refl $ forget ! 23 refl $ forget ! 24 refl $ forget ! 25 refl $ k (is-n0 .1) (is-n1 .1) (is-s .1) (is-m .1))))))
 
-    module _ (l′ : i < length (takenTo ys ws i)) (step : set (takenTo ys ws i) i (taken (getD (takenTo ys ws i) i powerUp) v) ≡ takenTo ys ws (i + 1)) (known : Known 𝓤 H A mem run 𝓣) (k : Sq W (‵ (row R fullShare (takenTo ys ws (i + 1)) b o) ∷ Way) (prop (post 𝓤 H p next))) where
+    module _ (l′ : i < length (takenTo ys ws i)) (step : set (takenTo ys ws i) i (takes (getD (takenTo ys ws i) i powerUp) v) ≡ takenTo ys ws (i + 1)) (known : Known 𝓤 H A mem run 𝓣) (k : Sq W (‵ (row R fullShare (takenTo ys ws (i + 1)) b o) ∷ Way) (prop (post 𝓤 H p next))) where
       -- where the word's address is 0x20 or above
-      far : Holds (isHigh v) → Sq W (‵ (row R fullShare (takenTo ys ws i) b o) ∷ Way) (runs (𝓣 .C) (𝓣 .Λ) (envOf ls l) (part (part (rest (rest (rest (rest (rest (rest (rest turn))))))))) p)
+      far : Holds (inPlace v (getD (takenTo ys ws i) i powerUp .family)) → Sq W (‵ (row R fullShare (takenTo ys ws i) b o) ∷ Way) (runs (𝓣 .C) (𝓣 .Λ) (envOf ls l) (part (part (rest (rest (rest (rest (rest (rest (rest (rest (rest (rest turn)))))))))))) p)
       far yes =
           let d : Device = getD (takenTo ys ws i) i powerUp in
           let x0 : List ℕ = d .registers .planes .p0 in
           let x1 : List ℕ = d .registers .planes .p1 in
-          let high : isHigh v ≡ true = lt-ltb 1 (v / 4096 % 8) (ltb→lt 1 (v / 4096 % 8) yes) in
+          let there : inPlace v (d .family) ≡ true = held-true (inPlace v (d .family)) yes in
           takes-out ! device device-sized fullShare (takenTo ys ws i) i powerUp b o l′ (λ is-d.
           let has = planes-of d is-d in
           stores known x0 x1 (long 16 x0 _ (has .0)) (long 16 x1 _ (has .1)) (at-most 16 x0 _ (has .0) (digitOf v)) (at-most 16 x1 _ (has .1) (digitOf v)) (λ n0< n1< s< m<.
           let g : Device = highTaken d v in
-          let stepped : set (takenTo ys ws i) i g ≡ takenTo ys ws (i + 1) = ap (λ (x : Device). set (takenTo ys ws i) i x) (sym (high-taken v (is-v .1) high d)) ∙ step in
+          let stepped : set (takenTo ys ws i) i g ≡ takenTo ys ws (i + 1) = ap (λ (x : Device). set (takenTo ys ws i) i x) (sym (in-place v (is-v .1) d there)) ∙ step in
           puts-in ! device device-sized fullShare (takenTo ys ws i) i powerUp g b o l′ (is-stored d (digitOf v) _ _ _ _ n0< n1< s< m< is-d) $
           rewrite ! 0 (λ (l : List Device). ‵ (row R fullShare l b o)) stepped refl $ k))
 
-      -- where it is below
-      near : Sq W (‵ (row R fullShare (takenTo ys ws i) b o) ∷ Way) (runs (𝓣 .C) (𝓣 .Λ) (envOf ls l) (rest (part (rest (rest (rest (rest (rest (rest (rest turn))))))))) p)
-      near =
+      -- where the driver is a MAX6957
+      near : Holds (isPorts (getD (takenTo ys ws i) i powerUp .family)) → Sq W (‵ (row R fullShare (takenTo ys ws i) b o) ∷ Way) (runs (𝓣 .C) (𝓣 .Λ) (envOf ls l) (part (rest others)) p)
+      near new =
           let d : Device = getD (takenTo ys ws i) i powerUp in
-          let e : Device = taken d v in
+          let e : Device = portsTaken d v in
+          let stepped : set (takenTo ys ws i) i e ≡ takenTo ys ws (i + 1) = ap (λ (x : Device). set (takenTo ys ws i) i x) (sym (ports-place v d (held-true (isPorts (d .family)) new))) ∙ step in
           copies ! device device-sized fullShare (takenTo ys ws i) i (length ys) powerUp b o below (room .1) l′ (var ! 1 refl refl) (from ! (stop !)) (λ wt. init ! 25 refl wt) (start ! 2 refl refl) (var ! 25 refl refl) (from ! (stop !)) (init ! 26 refl (tt, tt)) (from ! (hop ! (look ! 28 refl) (stop !))) (from ! (stop !)) (λ wt. init ! 29 refl wt) (λ is-d.
-          calls-value ! (fmOf 𝓤 H (W .laws) 𝓣) (device ∷ half ∷ []) device (λ _. emp 𝓤) (λ a. taken (a .0) (a .1 .0)) (known .work) (d, (v, tt)) (is-d, (is-v, tt)) (id⊢ 𝓤 _) (and-then ! (var ! 28 refl refl) (and-then ! (var ! 4 refl refl) (no-more !))) (λ is-e wt-e. lands-in ! 24 refl refl wt-e $
+          calls-value ! (fmOf 𝓤 H (W .laws) 𝓣) (device ∷ half ∷ []) device (λ _. emp 𝓤) (λ a. portsTaken (a .0) (a .1 .0)) (known .work) (d, (v, tt)) (is-d, (is-v, tt)) (id⊢ 𝓤 _) (and-then ! (var ! 28 refl refl) (and-then ! (var ! 4 refl refl) (no-more !))) (λ is-e wt-e. lands-in ! 24 refl refl wt-e $
           points ! recordBytes tt i (length ys) b o below (room .1) (var ! 1 refl refl) (from ! (stop !)) (λ wt. init ! 28 refl wt) (start ! 2 refl refl) (var ! 28 refl refl) (from ! (stop !)) (init ! 29 refl (tt, tt)) $
           takes-out ! device device-sized fullShare (takenTo ys ws i) i powerUp b o l′ (λ _.
           assigns-last ! (of-opd ! (var ! 26 refl refl)) (from ! (hop ! (look ! 31 refl) (stop !))) (store-raw ! 0 refl wt-e) $
           puts-in ! device device-sized fullShare (takenTo ys ws i) i powerUp e b o l′ is-e $
-          rewrite ! 0 (λ (l : List Device). ‵ (row R fullShare l b o)) step refl $
+          rewrite ! 0 (λ (l : List Device). ‵ (row R fullShare l b o)) stepped refl $
           forget ! 24 refl $ forget ! 25 refl $ forget ! 26 refl $ forget ! 27 refl $ forget ! 28 refl $ forget ! 29 refl $ k)))
+
+      -- where it is of the old family and the word's address below 0x20
+      low : Holds (not (isPorts (getD (takenTo ys ws i) i powerUp .family))) → Sq W (‵ (row R fullShare (takenTo ys ws i) b o) ∷ Way) (runs (𝓣 .C) (𝓣 .Λ) (envOf ls l) (rest (rest others)) p)
+      low old =
+          let d : Device = getD (takenTo ys ws i) i powerUp in
+          let g : Device = lowTaken d v in
+          let stepped : set (takenTo ys ws i) i g ≡ takenTo ys ws (i + 1) = ap (λ (x : Device). set (takenTo ys ws i) i x) (sym (low-place v (is-v .1) d (held-false (isPorts (d .family)) old))) ∙ step in
+          -- [the record; what it owns; the others; _4; _1; _5; _7; ..; _9; _19; ..; _35; _37; ..; _50, at 39; _10]
+          takes-out ! device device-sized fullShare (takenTo ys ws i) i powerUp b o l′ (λ is-d.
+          let is-x = registers-of d is-d in
+          points ! recordBytes tt i (length ys) b o below (room .1) (var ! 3 refl refl) (from ! (stop !)) (λ wt. init ! 32 refl wt) (start ! 4 refl refl) (var ! 32 refl refl) (from ! (stop !)) (init ! 33 refl (tt, tt)) $ sets ! (of-opd ! (load ! (from ! (hop ! (look ! 33 refl) (at-registers !))) (look-in ! 0 (row-registers !)))) 40 refl refl (registers .typed 𝓤 H A W (d .registers) is-x) $
+          calls-value ! (fmOf 𝓤 H (W .laws) 𝓣) (registers ∷ half ∷ []) half (λ _. emp 𝓤) (λ a. lowShift (a .0) (a .1 .0)) (known .low-shift) (d .registers, (v, tt)) (is-x, (is-v, tt)) (id⊢ 𝓤 _) (and-then ! (var ! 41 refl refl) (and-then ! (var ! 6 refl refl) (no-more !))) (λ is-s wt-s. lands-in ! 34 refl refl wt-s $
+          points ! recordBytes tt i (length ys) b o below (room .1) (var ! 3 refl refl) (from ! (stop !)) (λ wt. store ! 32 refl wt) (start ! 4 refl refl) (var ! 32 refl refl) (from ! (stop !)) (init ! 35 refl (tt, tt)) $ assigns ! (of-opd ! (var ! 34 refl refl)) (from ! (hop ! (look ! 35 refl) (at-shift !))) (store-in ! 0 (row-shift !) wt-s) $
+          calls-value ! (fmOf 𝓤 H (W .laws) 𝓣) (registers ∷ half ∷ []) registers (λ _. emp 𝓤) (λ a. lowRegisters (a .0) (a .1 .0)) (known .low-registers) (d .registers, (v, tt)) (is-x, (is-v, tt)) (id⊢ 𝓤 _) (and-then ! (var ! 41 refl refl) (and-then ! (var ! 6 refl refl) (no-more !))) (λ is-r wt-r. lands-in ! 36 refl refl wt-r $
+          points ! recordBytes tt i (length ys) b o below (room .1) (var ! 3 refl refl) (from ! (stop !)) (λ wt. store ! 32 refl wt) (start ! 4 refl refl) (var ! 32 refl refl) (from ! (stop !)) (init ! 37 refl (tt, tt)) $ assigns ! (of-opd ! (var ! 36 refl refl)) (from ! (hop ! (look ! 37 refl) (at-registers !))) (store-in ! 0 (row-registers !) wt-r) $
+          calls-value ! (fmOf 𝓤 H (W .laws) 𝓣) (half ∷ []) byte (λ _. emp 𝓤) (λ a. newMark (a .0)) (known .mark) (v, tt) (is-v, tt) (id⊢ 𝓤 _) (and-then ! (var ! 6 refl refl) (no-more !)) (λ is-m wt-m. lands-in ! 38 refl refl wt-m $
+          points ! recordBytes tt i (length ys) b o below (room .1) (var ! 3 refl refl) (from ! (stop !)) (λ wt. store ! 32 refl wt) (start ! 4 refl refl) (var ! 32 refl refl) (from ! (stop !)) (init ! 39 refl (tt, tt)) $ assigns-last ! (of-opd ! (var ! 38 refl refl)) (from ! (hop ! (look ! 39 refl) (at-mark !))) (store-in ! 0 (row-mark !) wt-m) $
+          puts-in ! device device-sized fullShare (takenTo ys ws i) i powerUp g b o l′ (is-replaced d (lowRegisters (d .registers) v) (lowShift (d .registers) v) (newMark v) is-r (is-s .1) (is-m .1) is-d) $
+          rewrite ! 0 (λ (l : List Device). ‵ (row R fullShare l b o)) stepped refl $
+          forget ! 30 refl $ forget ! 31 refl $ forget ! 32 refl $ forget ! 33 refl $ forget ! 34 refl $ forget ! 35 refl $ forget ! 36 refl $ forget ! 37 refl $ forget ! 38 refl $ k))))
 
 module _ {M : Type 1} (𝓤 : URA M) (H : Heap 𝓤) (A : Atoms 𝓤) (W : Given 𝓤 H A) (mem : Memory → SProp 𝓤) (run : Routine → Fun 𝓤) (κ κ₁ : Lft) (q q₁ : Share) (b o : ℕ) (γ : GName) (ys : List Device) (b₁ o₁ : ℕ) (γ₁ : GName) (ws : List ℕ) where
   abbrev ref : List Device → RefT (List Device)
@@ -142,32 +184,39 @@ module _ {M : Type 1} (𝓤 : URA M) (H : Heap 𝓤) (A : Atoms 𝓤) (W : Given
   walk 𝓣 known room room₁ =
       qed W ((‵ (flft κ q) ⊛ ‵ (flft κ₁ q₁) ⊛ ‵ ftrue) ∷ ‵ (owns (MutSlice (named 0) κ R ∷ ShrSlice (named 1) κ₁ S ∷ []) (y .3) (y .4)) ∷ []) ∵ enter ! (𝓣 .C) (𝓣 .Λ) take-words.Code.function _ _ $
       starts W ls ! (λ l D dies. params1 ! $ pass1 ! (init ! 1 refl (tt, (tt, (record { fits = room .0 }, tt)))) $ pass1 ! (init ! 2 refl (tt, (tt, (record { fits = room₁ .0 }, tt)))) $ pass0 ! $
-      -- [_0; _1; ..; _38; that they die; the tokens; what the parameters own]
-      sets ! (of-opd ! (count ! 1 refl refl)) 9 refl refl (tt, record { fits = room .0 }) $
-      sets ! (of-opd ! (count ! 2 refl refl)) 10 refl refl (tt, record { fits = room₁ .0 }) $
+      -- [_0; _1; ..; _50; that they die; the tokens; what the parameters own]
+      sets ! (of-opd ! (count ! 1 refl refl)) 11 refl refl (tt, record { fits = room .0 }) $
+      sets ! (of-opd ! (count ! 2 refl refl)) 12 refl refl (tt, record { fits = room₁ .0 }) $
       calls-value ! (fmOf 𝓤 H (W .laws) 𝓣) (size ∷ size ∷ []) size (λ _. emp 𝓤) (λ a. inRoom (a .0) (a .1 .0)) (known .room) (length ys, (length ws, tt)) ((refl, room .0), ((refl, room₁ .0), tt)) (id⊢ 𝓤 _)
-      (and-then ! (var ! 10 refl refl) (and-then ! (var ! 11 refl refl) (no-more !))) (λ is-m wt-m. lands-in ! 3 refl refl wt-m $
+      (and-then ! (var ! 12 refl refl) (and-then ! (var ! 13 refl refl) (no-more !))) (λ is-m wt-m. lands-in ! 3 refl refl wt-m $
       sets ! (of-opd ! (lit ! tt)) 4 refl refl (tt, record { fits = lit< tt }) $
-      move ! (41 ∷ 40 ∷ []) $ fsplit ! $ fsplit ! $ pureL ! (at-slice R (ref ys) (slice-vals (ref ys))) (λ _. fsplit ! $ move ! (3 ∷ []) $ split ! $ move ! (2 ∷ 3 ∷ 0 ∷ []) $ opens-slice ! tt R ys b o $
+      move ! (53 ∷ 52 ∷ []) $ fsplit ! $ fsplit ! $ pureL ! (at-slice R (ref ys) (slice-vals (ref ys))) (λ _. fsplit ! $ move ! (3 ∷ []) $ split ! $ move ! (2 ∷ 3 ∷ 0 ∷ []) $ opens-slice ! tt R ys b o $
       rewrite ! 0 (λ (l : List Device). ‵ (row R fullShare l b o)) (taken-start ys ws) refl $ move ! (5 ∷ []) $ fsplit ! $ move ! (6 ∷ []) $ split ! $
-      -- [the words' token; true; what words owns; true; the records; their open borrow; obs; auth; _0, at 8; ..; _38; that they die]
-      let spots : Spots 𝓤 H half (named 1) (envOf ls l) 2 3 4 11 12 13 14 = record { at = λ k. getD (l 2 ∷ l 3 ∷ l 4 ∷ l 11 ∷ l 12 ∷ l 13 ∷ l 14 ∷ []) k 0; slice = refl; end = refl; count = refl; test = refl; scaled = refl; pointer = refl; copied = refl } in
-      move ! (0 ∷ 2 ∷ 10 ∷ 11 ∷ 12 ∷ 19 ∷ 20 ∷ 21 ∷ 22 ∷ 4 ∷ 9 ∷ 13 ∷ 14 ∷ 15 ∷ 16 ∷ (span 24 23 ++ (23 ∷ []))) $
-      goes-over spots half-sized ! 𝓣 lent room₁ (m ys ws) (λ i l′. in-room-below (length ys) (length ws) i l′ .1) (λ _. Unit {0}) tt (λ i. ‵ (row R fullShare (takenTo ys ws i) b o) ∷ held 𝓤 (ways l ++ ((tyBool, l 15) ∷ [])) (some (sliceVal (b, o) (length ys)) ∷ [])) _ (λ q′ B i l′ _ Q next.
+      -- [the words' token; true; what words owns; true; the records; their open borrow; obs; auth; _0, at 8; ..; _50; that they die]
+      let spots : Spots 𝓤 H half (named 1) (envOf ls l) 2 3 4 13 14 15 16 = record { at = λ k. getD (l 2 ∷ l 3 ∷ l 4 ∷ l 13 ∷ l 14 ∷ l 15 ∷ l 16 ∷ []) k 0; slice = refl; end = refl; count = refl; test = refl; scaled = refl; pointer = refl; copied = refl } in
+      move ! (0 ∷ 2 ∷ 10 ∷ 11 ∷ 12 ∷ 21 ∷ 22 ∷ 23 ∷ 24 ∷ 4 ∷ 9 ∷ 13 ∷ 15 ∷ 16 ∷ 17 ∷ (span 27 17 ++ (span 45 14 ++ (18 ∷ 44 ∷ 14 ∷ 26 ∷ 25 ∷ [])))) $
+      goes-over spots half-sized ! 𝓣 lent room₁ (m ys ws) (λ i l′. in-room-below (length ys) (length ws) i l′ .1) (λ _. Unit {0}) tt (λ i. ‵ (row R fullShare (takenTo ys ws i) b o) ∷ held 𝓤 (ways l ++ ((tyBool, l 36) ∷ (byte .ty, l 6) ∷ (tyBool, l 18) ∷ (tyPtr, l 17) ∷ [])) (some (sliceVal (b, o) (length ys)) ∷ [])) _ (λ q′ B i l′ _ Q next.
       let v : ℕ = getD ws i 0 in
+      let d : Device = getD (takenTo ys ws i) i powerUp in
       let below = in-room-below (length ys) (length ws) i l′ in
       let l″ : i < length (takenTo ys ws i) = omega (arith, below .0, length-taken ys ws i (omega (arith, below .0))) in
-      -- [the words; their open borrow; _2; _3; _4; _11; ..; _14; the records; _1; _5; ..; _8; _16; ..; _38; _15]
+      -- [the words; their open borrow; _2; _3; _4; _13; ..; _16; the records; _1; _5; _7; ..; _9; _19; ..; _35; _37; ..; _50; _10; _36; _6; _18; _17]
       copies-out spots half-sized ! q′ lent i 0 (below .1) room₁ (λ is-v. sets ! (of-opd ! (var ! 8 refl refl)) 11 refl refl (half .typed 𝓤 H A W v is-v) $
-      calls-value ! (fmOf 𝓤 H (W .laws) 𝓣) (half ∷ []) flag (λ _. emp 𝓤) (λ a. isHigh (a .0)) (known .high) (v, tt) (is-v, tt) (id⊢ 𝓤 _) (and-then ! (var ! 12 refl refl) (no-more !)) (λ is-h wt-h. lands-in ! 38 refl refl wt-h $ move ! (9 ∷ 4 ∷ span 10 28) $
-      meets ! 0 (‵ (row R fullShare (takenTo ys ws (i + 1)) b o)) (var ! 38 refl refl)
+      -- the family of the record
+      points ! recordBytes tt i (length ys) b o (below .0) (room .1) (var ! 4 refl refl) (from ! (stop !)) (λ wt. store ! 6 refl wt) (start ! 10 refl refl) (var ! 6 refl refl) (from ! (stop !)) (init ! 50 refl (tt, tt)) $ move ! (9 ∷ []) $
+      takes-out ! device device-sized fullShare (takenTo ys ws i) i powerUp b o l″ (λ is-d. sets ! (of-opd ! (load ! (from ! (hop ! (look ! 52 refl) (at-family !))) (look-in ! 0 (row-family !)))) 50 refl refl (byte .typed 𝓤 H A W (d .family) (family-is d is-d)) $ puts-back ! device device-sized fullShare (takenTo ys ws i) i powerUp b o l″ $
+      calls-value ! (fmOf 𝓤 H (W .laws) 𝓣) (half ∷ byte ∷ []) flag (λ _. emp 𝓤) (λ a. inPlace (a .0) (a .1 .0)) (known .high) (v, (d .family, tt)) (is-v, (family-is d is-d, tt)) (id⊢ 𝓤 _) (and-then ! (var ! 12 refl refl) (and-then ! (var ! 49 refl refl) (no-more !))) (λ is-h wt-h. lands-in ! 49 refl refl wt-h $ move ! (0 ∷ 5 ∷ span 10 39) $
+      meets ! 0 (‵ (row R fullShare (takenTo ys ws (i + 1)) b o)) (var ! 49 refl refl)
       (λ p k yes. far 𝓤 H A W mem run 𝓣 b o ys ws l i v is-v _ p room (below .0) l″ (taken-more ys ws i (below .0)) known k yes)
-      (λ p k no. near 𝓤 H A W mem run 𝓣 b o ys ws l i v is-v _ p room (below .0) l″ (taken-more ys ws i (below .0)) known k)
-      (move ! (30 ∷ 31 ∷ 32 ∷ 33 ∷ 1 ∷ 34 ∷ 35 ∷ 36 ∷ 37 ∷ 0 ∷ []) $ forget ! 11 refl $ forget ! 38 refl $ next tt _ _))))
-      -- [the words' token; _2; _3; _4; _11; ..; _14; the records, at 8; _1; _5; ..; _8; _16; ..; _38; _15; true; true; their open borrow, at 40; obs; auth; _0; _9; _10; that they die]
+      (λ p k no. calls-value ! (fmOf 𝓤 H (W .laws) 𝓣) (byte ∷ []) flag (λ _. emp 𝓤) (λ a. isPorts (a .0)) (known .ports) (d .family, tt) (family-is d is-d, tt) (id⊢ 𝓤 _) (and-then ! (var ! 41 refl refl) (no-more !)) (λ is-p wt-p. lands-in ! 39 refl refl wt-p $
+      branches ! (var ! 39 refl refl)
+      (λ h. near 𝓤 H A W mem run 𝓣 b o ys ws l i v is-v _ p room (below .0) l″ (taken-more ys ws i (below .0)) known (forget ! 39 refl $ k) h)
+      (λ h. low 𝓤 H A W mem run 𝓣 b o ys ws l i v is-v _ p room (below .0) l″ (taken-more ys ws i (below .0)) known (forget ! 39 refl $ k) h)))
+      (move ! (41 ∷ 42 ∷ 43 ∷ 44 ∷ 1 ∷ 45 ∷ 46 ∷ 47 ∷ 48 ∷ 0 ∷ []) $ forget ! 11 refl $ forget ! 48 refl $ forget ! 49 refl $ forget ! 50 refl $ next tt _ _)))))
+      -- [the words' token; _2; _3; _4; _13; ..; _16; the records, at 8; _1; _5; _7; ..; _9; _19; ..; _35; _37; ..; _50; _10; _36; _6; _18; _17; true; true; their open borrow, at 52; obs; auth; _0; _11; _12; that they die]
       (λ _. let long′ : length (takenTo ys ws (m ys ws)) ≡ length ys = length-taken ys ws (m ys ws) (in-room-le (length ys) (length ws)) in
-      sets ! (of-opd ! (unit-lit !)) 43 refl refl (tt, tt) $ move ! (8 ∷ 40 ∷ 41 ∷ 42 ∷ []) $ closes-slice ! tt R ys (takenTo ys ws (m ys ws)) long′ b o $ returns ! (look ! 42 refl) $
-      move ! (42 ∷ 11 ∷ 4 ∷ 5 ∷ 6 ∷ 12 ∷ 13 ∷ 14 ∷ 15 ∷ 43 ∷ 44 ∷ 7 ∷ 8 ∷ 9 ∷ 10 ∷ 39 ∷ (span 16 23 ++ (45 ∷ []))) $ leaves W dies (some _ ∷ some _ ∷ some _ ∷ some _ ∷ some _ ∷ none ∷ none ∷ none ∷ none ∷ some _ ∷ some _ ∷ some _ ∷ []) ! $ keep ! (3 ∷ 0 ∷ 1 ∷ 2 ∷ []) $
+      sets ! (of-opd ! (unit-lit !)) 55 refl refl (tt, tt) $ move ! (8 ∷ 52 ∷ 53 ∷ 54 ∷ []) $ closes-slice ! tt R ys (takenTo ys ws (m ys ws)) long′ b o $ returns ! (look ! 54 refl) $
+      move ! (54 ∷ 11 ∷ 4 ∷ 5 ∷ 6 ∷ 12 ∷ 49 ∷ 13 ∷ 14 ∷ 15 ∷ 47 ∷ 55 ∷ 56 ∷ 7 ∷ 8 ∷ 9 ∷ 10 ∷ 51 ∷ 50 ∷ (span 16 17 ++ (48 ∷ (span 33 14 ++ (57 ∷ []))))) $ leaves W dies (some _ ∷ some _ ∷ some _ ∷ some _ ∷ some _ ∷ none ∷ none ∷ none ∷ none ∷ none ∷ none ∷ some _ ∷ some _ ∷ some _ ∷ []) ! $ keep ! (3 ∷ 0 ∷ 1 ∷ 2 ∷ []) $
       suffices ! _ (ends-at 𝓤 H A take-words.ended stayed (take-words.clauses 𝓤 H A mem run) W (y, tt) vunit tt (takenTo ys ws (m ys ws), (tt, tt)) (long′, (tt, tt))) $ says ! refl $
       nothing ! $ move ! (1 ∷ 0 ∷ []) $ join ! $ move ! (3 ∷ 0 ∷ []) $ join ! $ frame ! $ fjoin ! $ pureI ! (at-slice R (ref (takenTo ys ws (m ys ws))) (slice-vals (ref ys))) (tt, (tt, tt)) (ap (λ (k : ℕ). sliceVal (b, o) k ∷ []) (sym long′), subst (Room R) (sym long′) room) $
       fjoin ! $ nothing ! $ nothing ! $ fjoin ! $ move ! (1 ∷ 0 ∷ []) $ fjoin ! $ frame ! $ feqI ! (List Val) (vunit ∷ []) (vunit ∷ []) refl $ done !))))
@@ -181,11 +230,14 @@ take-words-spec 𝓤 H 𝓜 𝓖 𝓡 =
     (λ κs qs bounds a g are. via 𝓤 _ (fst∗ 𝓤 _ (emp 𝓤)) (walk 𝓤 H (𝓖 .A) W (𝓜 .mem) (𝓡 .run) (κs .0) (κs .1 .0) (qs .0) (qs .1 .0) (a .0 .ptr .0) (a .0 .ptr .1) (a .0 .name) (a .0 .now) (a .1 .0 .ptr .0) (a .1 .0 .ptr .1) (a .1 .0 .name) (a .1 .0 .now) (tablesOf 𝓤 H 𝓜 (tables 𝓤 H 𝓜 𝓡 take-words.Code.env))
     (record {
       room = cited 𝓤 H _ 𝓜 𝓡 take-words.Code.env room′.Symbol.name room′.Symbol.routine take-words.Code.calls-pass·in-room (room′.Met.met 𝓤 H 𝓜 𝓖 𝓡);
-      high = cited 𝓤 H _ 𝓜 𝓡 take-words.Code.env high′.Symbol.name high′.Symbol.routine take-words.Code.calls-high-words·is-high (high′.Met.met 𝓤 H 𝓜 𝓖 𝓡);
+      high = cited 𝓤 H _ 𝓜 𝓡 take-words.Code.env high′.Symbol.name high′.Symbol.routine take-words.Code.calls-high-words·in-place (high′.Met.met 𝓤 H 𝓜 𝓖 𝓡);
       at = cited 𝓤 H _ 𝓜 𝓡 take-words.Code.env at′.Symbol.name at′.Symbol.routine take-words.Code.calls-high-words·digit (at′.Met.met 𝓤 H 𝓜 𝓖 𝓡);
       p0 = cited 𝓤 H _ 𝓜 𝓡 take-words.Code.env p0′.Symbol.name p0′.Symbol.routine take-words.Code.calls-high-words·new-p0 (p0′.Met.met 𝓤 H 𝓜 𝓖 𝓡);
       p1 = cited 𝓤 H _ 𝓜 𝓡 take-words.Code.env p1′.Symbol.name p1′.Symbol.routine take-words.Code.calls-high-words·new-p1 (p1′.Met.met 𝓤 H 𝓜 𝓖 𝓡);
       shift = cited 𝓤 H _ 𝓜 𝓡 take-words.Code.env shift′.Symbol.name shift′.Symbol.routine take-words.Code.calls-high-words·new-shift (shift′.Met.met 𝓤 H 𝓜 𝓖 𝓡);
       mark = cited 𝓤 H _ 𝓜 𝓡 take-words.Code.env mark′.Symbol.name mark′.Symbol.routine take-words.Code.calls-high-words·new-mark (mark′.Met.met 𝓤 H 𝓜 𝓖 𝓡);
-      work = cited 𝓤 H _ 𝓜 𝓡 take-words.Code.env work.Symbol.name work.Symbol.routine take-words.Code.calls-device·Device·taken (work.Met.met 𝓤 H 𝓜 𝓖 𝓡);
+      ports = cited 𝓤 H _ 𝓜 𝓡 take-words.Code.env ports′.Symbol.name ports′.Symbol.routine take-words.Code.calls-high-words·is-ports (ports′.Met.met 𝓤 H 𝓜 𝓖 𝓡);
+      low-shift = cited 𝓤 H _ 𝓜 𝓡 take-words.Code.env low-shift′.Symbol.name low-shift′.Symbol.routine take-words.Code.calls-high-words·low-shift (low-shift′.Met.met 𝓤 H 𝓜 𝓖 𝓡);
+      low-registers = cited 𝓤 H _ 𝓜 𝓡 take-words.Code.env low-registers′.Symbol.name low-registers′.Symbol.routine take-words.Code.calls-high-words·low-registers (low-registers′.Met.met 𝓤 H 𝓜 𝓖 𝓡);
+      work = cited 𝓤 H _ 𝓜 𝓡 take-words.Code.env work.Symbol.name work.Symbol.routine take-words.Code.calls-high-words·ports-taken (work.Met.met 𝓤 H 𝓜 𝓖 𝓡);
     }) (are .0 .0 .1) (are .1 .0 .0 .1)))

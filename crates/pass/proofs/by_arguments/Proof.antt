@@ -4,8 +4,7 @@ use Rattle.refusals.proofs.RefusalLaws.{first-last}
 use Rattle.pass.proofs.by_arguments.Tie as tie
 
 returns : tie.Need-returns
-returns c = simp (first-last, c .before .before .before .driver-refusal .ensures, c .before .before .first-of .ensures, c .before .chain-refusal .ensures, c .first-of2 .ensures)
+returns c = simp (first-last, c .before .before .chain-refusal .ensures, c .before .driver-refusal .ensures, c .first-of .ensures)
 
 pub by-arguments-spec : {M : Type 1} → Rattle.pass.proofs.by_arguments.Statement.statement M
-by-arguments-spec =
-    tie.close (tie.spec (λ c κs. search needs) (λ c κs. search needs) (λ c κs. search needs) (λ c κs. search needs) returns)
+by-arguments-spec = tie.close (tie.spec (λ c κs. search needs) (λ c κs. search needs) (λ c κs. search needs) returns)

@@ -1,18 +1,15 @@
 -- `device::Device::taken` meets its contract. Assumes nothing.
-use Rattle.device.specs.Taken.{taken}
-use Rattle.ground.proofs.Names.{needs}
+use Rattle.ground.proofs.Names.{needs, tests}
+use Rattle.device.specs.Families.{takes}
 use Rattle.device.proofs.Device.taken.Tie as tie
 
 returns : tie.Need-returns
-unfolding taken
-returns c = simp (c .before .before .before .before .before .with-shift .ensures, ← c .before .before .before .before .decode .ensures, c .before .before .register .given .1, c .written .ensures)
+unfolding takes
+returns c = simp (c .ports-taken .ensures) (search tests)
 
 returns-2 : tie.Need-returns-2
-unfolding taken
-returns-2 c = simp (c .before .before .before .before .before .with-shift .ensures, ← c .before .before .before .before .decode .ensures, c .before .before .register2 .given .1, c .answered .ensures)
+unfolding takes
+returns-2 c = simp (c .old-taken .ensures) (search tests)
 
 pub taken-spec : {M : Type 1} → Rattle.device.proofs.Device.taken.Statement.statement M
-taken-spec =
-    tie.close
-    (tie.spec (λ c κs. search needs) (λ c κs. search needs) (λ c. search needs) (λ c κs. search needs) (λ c. search needs) (λ c κs. search needs) returns
-    returns-2)
+taken-spec = tie.close (tie.spec (λ c κs. search needs) returns (λ c κs. search needs) returns-2)

@@ -1,13 +1,13 @@
 -- `row::Row::all_taken` meets its contract. The invariant: the first i records took their words. Assumes nothing.
 use Rattle.ground.proofs.Names.{_-_, _<_, arith, _≡_, refl, length, getD, needs, Filled, filled-start, filled-more, filled-rest, filled-all}
 use Rattle.device.specs.PowerUp.{powerUp}
-use Rattle.device.specs.Taken.{taken}
+use Rattle.device.specs.Families.{takes}
 use Rattle.row.proofs.Typed.{sixteen, default}
 use Rattle.row.proofs.Row.all_taken.Tie as tie
 
 abbrev Inv-loop : tie.InvT-loop
 Inv-loop n self₀ words at₀ self at =
-    (self .n ≡ self₀ .n) × Filled n (λ i. taken (getD (self₀ .devices) i powerUp) (getD words i 0)) (self₀ .devices) (self .devices) at
+    (self .n ≡ self₀ .n) × Filled n (λ i. takes (getD (self₀ .devices) i powerUp) (getD words i 0)) (self₀ .devices) (self .devices) at
 
 abbrev μ-loop : tie.MeasureT-loop
 μ-loop n self₀ words at₀ self at = n - at

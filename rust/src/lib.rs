@@ -1,7 +1,9 @@
-//! A bench double of a chain of MAX6954 LED display drivers, and of a bus of MAX6955 ([`two_wire`]), proved in Rattle.
+//! A bench double of a chain of MAX6954 LED display drivers and MAX6957 port drivers, and of a bus of MAX6955 ([`two_wire`]),
+//! proved in Rattle.
 //!
-//! A chain is any slice of 1 to 16 [`Device`] records, nearest the controller first. Drivers are counted from 1. A call is
-//! served, or refused with the lowest [`Refusal`] that applies; then no record and no lent byte has changed.
+//! A chain is any slice of 1 to 16 [`Device`] records, nearest the controller first; it may mix both families. Drivers are
+//! counted from 1. A call is served, or refused with the first [`Refusal`] that applies; then no record and no lent byte has
+//! changed.
 //!
 //! ```
 //! use ratchetelm::{access, answer_mark, Device, Refusal};
@@ -49,13 +51,18 @@
 //! assert_eq!(chain[1].registers.planes.p0, [0; 16]);
 //! # Ok::<(), Refusal>(())
 //! ```
+//!
+//! A MAX6957 has no digits: [`ports`] says what its ports drive. It lacks [`scan`], [`add_clocks`], [`plane`], [`segments`],
+//! [`brightness`], [`shown`] and [`look_back`], and a chain with one anywhere lacks [`plan`], [`plan_check`] and the bus.
 
 mod records;
 mod refusal;
 mod sys;
 pub mod two_wire;
 
-pub use records::{Config, Controls, Device, Group, Keys, Planes, Registers};
+pub use records::{
+    Config, Controls, Device, Group, Keys, Planes, PortConfig, PortRegisters, Registers, Transition,
+};
 pub use refusal::Refusal;
 
 /// The wanted bytes of one driver in a plan: P0, then P1.
@@ -121,6 +128,31 @@ pub enum Plane {
     P1 = 1,
 }
 
+/// What a port of a MAX6957 drives.
+#[derive(Clone, Copy, Debug, PartialEq, Eq)]
+pub enum PortState {
+    /// An input, an LED that is off, or any port in shutdown but an LED in display test.
+    Undriven,
+    /// An output, low.
+    Low,
+    /// An output, high.
+    High,
+    /// An LED current in sixteenths, 1 to 16.
+    Led(u8),
+}
+
+impl PortState {
+    // What C has as a number.
+    fn of(number: u8) -> PortState {
+        match number {
+            0 => PortState::Undriven,
+            1 => PortState::Low,
+            2 => PortState::High,
+            _ => PortState::Led(number - 2),
+        }
+    }
+}
+
 /// Clocks through the chain; bits are packed first bit highest. The answer's bytes are written, spare bits of the last one 0;
 /// bytes after them stay. Then every driver takes the word in its shift register, also at 0 clocks.
 pub fn access(
@@ -152,7 +184,8 @@ pub fn scan(chain: &mut [Device], driver: usize, keys: [u8; 4]) -> Result<(), Re
     Refusal::of(unsafe { sys::max6954_scan(chain.as_mut_ptr(), n, driver, a, b, c, d) })
 }
 
-/// The five pin levels of one driver, bit k is Pk.
+/// The pin levels of one driver: five in the old family, bit k is Pk; 28 of a MAX6957, bit k is port k+4, and a change may
+/// raise its interrupt.
 pub fn set_pins(chain: &mut [Device], driver: usize, levels: u32) -> Result<(), Refusal> {
     let n = chain.len();
     // SAFETY: the pointer has the length of its slice, which is borrowed exclusively.
@@ -251,7 +284,8 @@ fn plane_of(answer: sys::ShownAnswer) -> Result<Plane, Refusal> {
     })
 }
 
-/// Whether a driver's interrupt is raised.
+/// Whether a driver's interrupt is raised. That of a MAX6957 is cleared by a read or a write of its mask, which leave detection
+/// off after an event, and by configuration written with M set, which takes a new snapshot.
 pub fn interrupt(chain: &[Device], driver: usize) -> Result<bool, Refusal> {
     // SAFETY: the pointer has the length of its slice, and nothing is written.
     let answer = unsafe { sys::max6954_interrupt(chain.as_ptr(), chain.len(), driver) };
@@ -265,6 +299,30 @@ pub fn answer_mark(chain: &[Device], driver: usize) -> Result<bool, Refusal> {
     let answer = unsafe { sys::max6954_answer_mark(chain.as_ptr(), chain.len(), driver) };
     Refusal::of(answer.number)?;
     Ok(answer.mark == 1)
+}
+
+/// What each port of a MAX6957 drives, P4 to P31. A current is the global nibble + 1, with I=1 the port's own + 1; in display
+/// test every LED port has 8.
+///
+/// ```
+/// use ratchetelm::{access, ports, Device, PortState, Refusal};
+///
+/// let mut chain = [Device::power_up(), Device::max6957_power_up()];
+/// // To driver 2: P4 is an LED and P5 an output, the global current is 10 sixteenths, both are on, normal operation.
+/// for word in [0x09A4u16, 0x0209, 0x4003, 0x0401] {
+///     let [high, low] = word.to_be_bytes();
+///     access(&mut chain, 32, &[high, low, 0, 0], &mut [0; 4])?;
+/// }
+/// let [p4, p5, p6, ..] = ports(&chain, 2)?;
+/// assert_eq!([p4, p5, p6], [PortState::Led(10), PortState::High, PortState::Undriven]);
+/// assert_eq!(ports(&chain, 1), Err(Refusal::Lacked));
+/// # Ok::<(), Refusal>(())
+/// ```
+pub fn ports(chain: &[Device], driver: usize) -> Result<[PortState; 28], Refusal> {
+    // SAFETY: the pointer has the length of its slice, and nothing is written.
+    let answer = unsafe { sys::max6957_ports(chain.as_ptr(), chain.len(), driver) };
+    Refusal::of(answer.number)?;
+    Ok(answer.ports.map(PortState::of))
 }
 
 /// The byte of a digit in a plane that a driver would have after taking these words in order: digits 0 to 7, then 8 to 15 for

@@ -87,7 +87,55 @@ pub struct Registers {
     pub blink: u32,
 }
 
-/// A driver's record.
+/// 0x04 configuration of a MAX6957: the stored bits, each 0 or 1.
+#[repr(C)]
+#[derive(Clone, Copy, Debug, PartialEq, Eq)]
+pub struct PortConfig {
+    /// D7: transition detection; an event leaves it.
+    pub m: u8,
+    /// D6: each port's own current.
+    pub i: u8,
+    /// D0: normal operation, 0 is shutdown.
+    pub s: u8,
+}
+
+/// Transition detection, bit k for port k+24: P24 to P30.
+#[repr(C)]
+#[derive(Clone, Copy, Debug, PartialEq, Eq)]
+pub struct Transition {
+    /// 0x06 transition detect mask, 7 bits: ports that raise the interrupt.
+    pub mask: u8,
+    /// 7 bits: what the ports read when configuration was last written with M set.
+    pub snapshot: u8,
+    /// 1 from such a write until a masked port differs from the snapshot or M is written 0, else 0.
+    pub detecting: u8,
+    /// 1 when raised, else 0: INT, which P31 shows as an output while M is set.
+    pub interrupt: u8,
+}
+
+/// All that the registers of a MAX6957 hold or show, bit k for port k+4: P4 to P31. At 0x40 to 0x43 D0 is P4, as Table 3 of
+/// its data sheet has it.
+#[repr(C)]
+#[derive(Clone, Copy, Debug, PartialEq, Eq)]
+pub struct PortRegisters {
+    /// 0x24 to 0x3F and 0x40 to 0x5F as written, 28 bits: what an output gives, LED or logic.
+    pub stored: u32,
+    /// Levels of the pins, 28 bits: what an input reads, and any port in shutdown.
+    pub pins: u32,
+    /// 0x09 to 0x0F: two bits a port, P4 in D1 and D0 of the first; 0 LED, 1 output, 2 input, 3 input with pull-up.
+    pub pairs: [u8; 7],
+    /// 0x12 to 0x1F: P4 and P5, P6 and P7, .. P30 and P31; the odd one in the high nibble.
+    pub currents: [u8; 14],
+    /// 0x02 global current, 4 bits.
+    pub global: u8,
+    /// 0x07 display test, 1 bit.
+    pub test: u8,
+    pub config: PortConfig,
+    pub transition: Transition,
+}
+
+/// A driver's record. Of `registers` and `ports`, those of the family that the driver isn't of are never read, tested or
+/// changed.
 #[repr(C)]
 #[derive(Clone, Copy, Debug, PartialEq, Eq)]
 pub struct Device {
@@ -100,6 +148,9 @@ pub struct Device {
     pub answer_mark: u8,
     /// The command address of a two-wire part, 7 bits: where its next data byte is; accesses leave it.
     pub command: u8,
+    /// 0: MAX6954 or MAX6955, 1: MAX6957; no call changes it, and any other is refused.
+    pub family: u8,
+    pub ports: PortRegisters,
 }
 
 impl Device {
@@ -107,5 +158,11 @@ impl Device {
     pub fn power_up() -> Device {
         // SAFETY: the call takes nothing and gives a record.
         unsafe { sys::max6954_power_up() }
+    }
+
+    /// A MAX6957 at power-up: in shutdown, every port an input. The two differ in `family` alone.
+    pub fn max6957_power_up() -> Device {
+        // SAFETY: the call takes nothing and gives a record.
+        unsafe { sys::max6957_power_up() }
     }
 }

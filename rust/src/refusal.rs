@@ -1,7 +1,7 @@
 use std::error::Error;
 use std::fmt;
 
-/// Why a call was refused, in words by `Display`. Where several apply, it is the one with the lowest number.
+/// Why a call was refused, in words by `Display`. Where several apply, it is the first of them in this order.
 #[derive(Clone, Copy, Debug, PartialEq, Eq)]
 pub enum Refusal {
     ChainLength = 1,
@@ -13,12 +13,14 @@ pub enum Refusal {
     Unsound = 7,
     OneAddress = 10,
     AddressTooHigh = 11,
+    /// By a MAX6957 or by the old family; or some record's family is neither.
+    Lacked = 14,
     WantedLength = 12,
     ListTooShort = 13,
 }
 
 impl Refusal {
-    const ALL: [Refusal; 11] = [
+    const ALL: [Refusal; 12] = [
         Refusal::ChainLength,
         Refusal::DriverNumber,
         Refusal::TooManyClocks,
@@ -28,6 +30,7 @@ impl Refusal {
         Refusal::Unsound,
         Refusal::OneAddress,
         Refusal::AddressTooHigh,
+        Refusal::Lacked,
         Refusal::WantedLength,
         Refusal::ListTooShort,
     ];
@@ -56,12 +59,17 @@ impl fmt::Display for Refusal {
             Refusal::SentTooShort => "sent bytes fewer than the clocks need",
             Refusal::AnswerTooShort => "room for answer bytes fewer than the clocks need",
             Refusal::OutOfRange => {
-                "cathode above 7, pin levels above 31, a digit (alone or in a range) above 15, a plane above 1, \
-                 a range's last digit below its first, a lent plane not 16 long, or a glyph table not 128 long"
+                "cathode above 7, pin levels above 31 (over 28 bits for a MAX6957), \
+                 a digit (alone or in a range) above 15, a plane above 1, a range's last digit below its first, \
+                 a lent plane not 16 long, or a glyph table not 128 long"
             }
             Refusal::Unsound => "some record of the chain isn't sound, or the bus state isn't",
             Refusal::OneAddress => "two parts with one address",
             Refusal::AddressTooHigh => "address above 127",
+            Refusal::Lacked => {
+                "a family number unknown in some record, or a call that the named driver, \
+                 or for the planner, its check and the two-wire bus any driver, lacks"
+            }
             Refusal::WantedLength => "wanted planes not 32 bytes a driver",
             Refusal::ListTooShort => "room for the list too small for the shortest",
         })

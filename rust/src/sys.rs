@@ -38,6 +38,12 @@ pub struct MarkAnswer {
 }
 
 #[repr(C)]
+pub struct PortAnswer {
+    pub number: u8,
+    pub ports: [u8; 28],
+}
+
+#[repr(C)]
 pub struct LookBackAnswer {
     pub number: u8,
     pub byte: u8,
@@ -76,6 +82,8 @@ pub struct ByteAnswer {
 
 extern "C" {
     pub fn max6954_power_up() -> Device;
+
+    pub fn max6957_power_up() -> Device;
 
     pub fn max6954_access(
         chain: *mut Device,
@@ -124,6 +132,8 @@ extern "C" {
     pub fn max6954_interrupt(chain: *const Device, n: usize, driver: usize) -> InterruptAnswer;
 
     pub fn max6954_answer_mark(chain: *const Device, n: usize, driver: usize) -> MarkAnswer;
+
+    pub fn max6957_ports(chain: *const Device, n: usize, driver: usize) -> PortAnswer;
 
     pub fn max6954_plane_shown(
         chain: *const Device,

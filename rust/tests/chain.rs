@@ -496,6 +496,7 @@ fn refusals_have_the_numbers_and_words_of_the_header() {
         (7, Refusal::Unsound),
         (10, Refusal::OneAddress),
         (11, Refusal::AddressTooHigh),
+        (14, Refusal::Lacked),
         (12, Refusal::WantedLength),
         (13, Refusal::ListTooShort),
     ];

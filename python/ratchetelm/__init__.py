@@ -1,4 +1,4 @@
-"""The bench double of a chain of MAX6954 LED drivers, and of a bus of MAX6955, proved in Rattle.
+"""The bench double of a chain of MAX6954 LED drivers and MAX6957 port drivers, and of a bus of MAX6955, proved in Rattle.
 
     >>> from ratchetelm import Chain, Refused
     >>> chain = Chain(2)
@@ -22,18 +22,27 @@ The word that it holds now is an answer, and comes out one access later.
     >>> [f"{word:04X}" for word in chain.send(0x0000, 0x0000)]
     ['8303', '0000']
 
-A call that can't be served raises Refused, with the lowest number that applies; then no record has changed.
+A call that can't be served raises Refused, with the first number that applies; then no record has changed.
 
     >>> chain.scan(3)
     Traceback (most recent call last):
     ratchetelm.refused.Refused: 2: driver number not in 1..n
 
+A chain may have MAX6957 too, whose ports drive LED currents and logic levels. In this one P4 is an LED, P5 an output, and both are on.
+
+    >>> gripper = Chain.of("MAX6954", "MAX6957")
+    >>> for word in 0x09A4, 0x0209, 0x4003, 0x0401:
+    ...     answers = gripper.send(0x0000, word)
+    >>> ports = gripper.ports(2)
+    >>> ports[4].drive.name, ports[4].sixteenths, ports[5].drive.name, ports[6].drive.name
+    ('LED', 10, 'HIGH', 'UNDRIVEN')
+
 The library is target/lib/libratchetelm.so, which `make lib` makes, or the one in the folder that RATCHETELM_LIB names.
 """
 
-from .chain import Brightness, Chain, Pin, Ruler
+from .chain import Brightness, Chain, Drive, Pin, Port, Ruler
 from .records import Device
 from .refused import Refused
 from .two_wire import Bus, Byte
 
-__all__ = ["Brightness", "Bus", "Byte", "Chain", "Device", "Pin", "Refused", "Ruler"]
+__all__ = ["Brightness", "Bus", "Byte", "Chain", "Device", "Drive", "Pin", "Port", "Refused", "Ruler"]

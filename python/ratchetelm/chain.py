@@ -12,6 +12,8 @@ C = library.load()
 
 MOST_CLOCKS = 4096
 MOST_ACCESSES = 32
+FIRST_PORT = 4
+POWER_UPS = {"MAX6954": C.max6954_power_up, "MAX6957": C.max6957_power_up}
 
 
 class Pin(enum.IntEnum):
@@ -39,14 +41,50 @@ class Brightness(typing.NamedTuple):
     ruler: Ruler
 
 
+class Drive(enum.IntEnum):
+    """How a port of a MAX6957 is driven."""
+
+    UNDRIVEN = 0
+    LOW = 1
+    HIGH = 2
+    LED = 3
+
+
+class Port(typing.NamedTuple):
+    """What a port drives, and the sixteenths of an LED current, 1 to 16; 0 of any other."""
+
+    drive: Drive
+    sixteenths: int
+
+
+def port_of(code):
+    """A port as C has it: 2 + s is an LED current of s sixteenths."""
+    return Port(Drive(min(code, Drive.LED)), max(code - Drive.HIGH, 0))
+
+
 class Chain:
     """Drivers at power-up, nearest the controller first, counted from 1 in each call.
+
+    `Chain(2)` has two MAX6954. `Chain.of` names the part of each, so that a chain may have MAX6957 too:
+
+        >>> Chain.of("MAX6954", "MAX6957").records[1].family
+        1
 
     `records` is the array of their records, as C has them: it may be read and written between calls.
     """
 
     def __init__(self, n):
         self.records = (Device * n)(*[C.max6954_power_up() for _ in range(n)])
+
+    @classmethod
+    def of(cls, *parts):
+        """A chain of these parts, "MAX6954" or "MAX6957", driver 1's first."""
+        chain = cls(len(parts))
+        for k, part in enumerate(parts):
+            if part not in POWER_UPS:
+                raise ValueError(f"{part!r} isn't one of {', '.join(POWER_UPS)}")
+            chain.records[k] = POWER_UPS[part]()
+        return chain
 
     def __len__(self):
         return len(self.records)
@@ -81,7 +119,7 @@ class Chain:
         served(self._call("max6954_scan", place(driver, "driver"), *keys))
 
     def set_pins(self, driver, levels):
-        """The five pin levels of one driver, bit k is Pk."""
+        """The pin levels of one driver: five of a MAX6954, bit k is Pk, or 28 of a MAX6957, bit k is port k+4."""
         served(self._call("max6954_set_pins", place(driver, "driver"), number(levels, 32, "levels")))
 
     def add_clocks(self, driver, clocks):
@@ -115,6 +153,10 @@ class Chain:
     def answer_mark(self, driver):
         """Whether the word that a driver last took was a read, so that its shift word is an answer."""
         return self._ask("max6954_answer_mark", driver).mark == 1
+
+    def ports(self, driver):
+        """What each port of a MAX6957 drives, by its number, 4 to 31."""
+        return {p: port_of(code) for p, code in enumerate(self._ask("max6957_ports", driver).ports, FIRST_PORT)}
 
     def look_back(self, driver, plane, digit, words):
         """The byte of a digit in plane 0 or 1 that a driver would have after taking these words in order."""

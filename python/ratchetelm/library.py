@@ -26,6 +26,7 @@ STATE = ("bus", BusState)
 # Each call: what it gives back, then what it takes.
 CALLS = {
     "max6954_power_up": (Device,),
+    "max6957_power_up": (Device,),
     "max6954_access": (c_uint8, *CHAIN, c_size_t, *LENT_BYTES, *LENT_BYTES),
     "max6954_scan": (c_uint8, *CHAIN, c_size_t, c_uint8, c_uint8, c_uint8, c_uint8),
     "max6954_set_pins": (c_uint8, *CHAIN, c_size_t, c_uint32),
@@ -35,6 +36,7 @@ CALLS = {
     "max6954_shown": (answer("plane"), *CHAIN, c_size_t),
     "max6954_interrupt": (answer("raised"), *CHAIN, c_size_t),
     "max6954_answer_mark": (answer("mark"), *CHAIN, c_size_t),
+    "max6957_ports": (answer(("ports", c_uint8 * 28)), *CHAIN, c_size_t),
     "max6954_look_back": (answer("byte"), *CHAIN, c_size_t, c_size_t, c_size_t, *LENT_WORDS),
     "max6954_plane_shown": (answer("plane"), *CHAIN, c_size_t, *LENT_BYTES, *LENT_BYTES, c_size_t, c_size_t),
     "max6954_plan": (answer("accesses", number=c_size_t), *CHAIN, *LENT_BYTES, *LENT_WORDS),

@@ -48,8 +48,35 @@ class Registers(ctypes.Structure):
     ]
 
 
+class PortConfig(ctypes.Structure):
+    """The stored bits of a MAX6957's configuration register, each 0 or 1."""
+
+    _fields_ = [(name, c_uint8) for name in ("m", "i", "s")]
+
+
+class Transition(ctypes.Structure):
+    """Transition detection, bit k for port k+24."""
+
+    _fields_ = [(name, c_uint8) for name in ("mask", "snapshot", "detecting", "interrupt")]
+
+
+class PortRegisters(ctypes.Structure):
+    """All that the registers of a MAX6957 hold or show, bit k for port k+4; `global_` is the global current."""
+
+    _fields_ = [
+        ("stored", c_uint32),
+        ("pins", c_uint32),
+        ("pairs", c_uint8 * 7),
+        ("currents", c_uint8 * 14),
+        ("global_", c_uint8),
+        ("test", c_uint8),
+        ("config", PortConfig),
+        ("transition", Transition),
+    ]
+
+
 class Device(ctypes.Structure):
-    """A driver's record."""
+    """A driver's record: `registers` are those of a MAX6954 or MAX6955, `ports` those of a MAX6957, as `family` says."""
 
     _fields_ = [
         ("registers", Registers),
@@ -57,6 +84,8 @@ class Device(ctypes.Structure):
         ("fitted", c_uint8),
         ("answer_mark", c_uint8),
         ("command", c_uint8),
+        ("family", c_uint8),
+        ("ports", PortRegisters),
     ]
 
 

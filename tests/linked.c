@@ -111,7 +111,7 @@ static void refusals(void)
     refused("7: an answer mark of 2", 7, max6954_answer_mark(chain, 3, 1).number);
 }
 
-/* Document 01's table of numbers, and document 02's 10 to 13. */
+/* Document 01's table of numbers, and document 02's 10 to 14. */
 static void words(void)
 {
     static const char *const table[] = {
@@ -121,8 +121,8 @@ static void words(void)
         "more than 4,096 clocks in one access",
         "sent bytes fewer than the clocks need",
         "room for answer bytes fewer than the clocks need",
-        ("cathode above 7, pin levels above 31, a digit (alone or in a range) above 15, a plane above 1, a range's last digit below its first, "
-         "a lent plane not 16 long, or a glyph table not 128 long"),
+        ("cathode above 7, pin levels above 31 (over 28 bits for a MAX6957), a digit (alone or in a range) above 15, a plane above 1, "
+         "a range's last digit below its first, a lent plane not 16 long, or a glyph table not 128 long"),
         "some record of the chain isn't sound, or the bus state isn't",
         "script: wrong mark, unknown kind, cut record, length not fitting its kind, or a chain record that isn't first",
         "script longer than 65,536 bytes",
@@ -130,12 +130,14 @@ static void words(void)
         "address above 127",
         "wanted planes not 32 bytes a driver",
         "room for the list too small for the shortest",
+        ("a family number unknown in some record, or a call that the named driver, or for the planner, its check and the two-wire bus any driver, "
+         "lacks"),
     };
     int alike = 1;
-    for (int i = 0; i < 14; i++)
+    for (int i = 0; i < 15; i++)
         alike = alike && strcmp(max6954_refusal_text((uint8_t)i), table[i]) == 0;
     holds("each number has its words", alike);
-    holds("a number that isn't given has words too", strcmp(max6954_refusal_text(14), max6954_refusal_text(255)) == 0 && strlen(max6954_refusal_text(14)) > 0);
+    holds("a number that isn't given has words too", strcmp(max6954_refusal_text(15), max6954_refusal_text(255)) == 0 && strlen(max6954_refusal_text(15)) > 0);
 }
 
 static const uint8_t p0[16] = { 0, 1, 2, 3 }, p1[16] = { 9, 8, 7, 6 };

@@ -99,6 +99,8 @@ static void registers(void)
     fresh("1");
     int six = run("0955 400F C000", "0000 0955 400F") && pins(5) && run("C000", "C000") && drives(4, "");
     holds("example 6: in shutdown a port reads its pin", six && run("0401 C000 0000", "C005 0401 C00F") && drives(4, "HHHH"));
+    fresh("1");
+    holds("inputs drive nothing, with a pull-up or without", sent("0401 09FA 40FF") && drives(4, ""));
 }
 
 static int raised(void)
@@ -125,6 +127,8 @@ static void transitions(void)
     int nine = sent("0601 0F6A 0EA9 3801 3F01 0481") && p31(MAX6957_LOW) && sent("3800") && p31(MAX6957_HIGH) && sent("8600") && p31(MAX6957_LOW);
     holds("example 9: a watched output raises it too; without M P31 has its own bit", nine && sent("0401") && p31(MAX6957_HIGH));
     holds("a write of the mask clears it too", event() && sent("0601") && p31(MAX6957_LOW) && pins(0) && p31(MAX6957_LOW));
+    fresh("1");
+    holds("M written 0 ends detection", sent("0601 0480 0400") && pins(P24) && !raised() && sent("0480") && pins(0) && raised());
     fresh("1");
     int unmasked = sent("0602 0F6A 0481") && pins(P24) && !raised();
     holds("a port that isn't masked raises nothing, until the mask has it", unmasked && sent("0601") && raised());

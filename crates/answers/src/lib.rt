@@ -4,7 +4,7 @@ ghost use mathlib.Core.List.{[]};
 ghost use Rattle.ground.specs.Lists.{tabulate};
 ghost use Rattle.device.specs.Steps.{shownPlane};
 ghost use Rattle.device.specs.Families.{interruptOf};
-ghost use Rattle.port_registers.specs.Ports.{portStates};
+ghost use Rattle.port_states.specs.PortStates.{statesOf};
 ghost use lib.ListN.{replicate};
 ghost use Rattle.display.specs.Pins.{pinCode};
 ghost use Rattle.display.specs.declared.Pin.the-variants.{NotDriven};
@@ -36,7 +36,7 @@ pub struct MarkAnswer {
     pub mark: u8,
 }
 
-// An answer: its number, and what P4 to P31 show, P4 first: 0 undriven, 1 low, 2 high, 2 + s an LED current of s sixteenths.
+// An answer: its number, and what P4 to P31 drive, P4 first: 0 undriven, 1 low, 2 high, 2 + s an LED current of s sixteenths.
 #[repr(C)]
 pub struct PortAnswer {
     pub number: u8,
@@ -53,14 +53,14 @@ pub fn ports_refused(number: u8) -> PortAnswer
     }
 }
 
-// What the ports of a MAX6957 show.
+// What the ports of a MAX6957 drive.
 pub fn ports(d: Device) -> PortAnswer
-    ensures { λ r. ⌜ r ≡ record { number = 0; ports = portStates (d .ports) } ⌝ }
+    ensures { λ r. ⌜ r ≡ record { number = 0; ports = statesOf (d .ports) } ⌝ }
 {
     let registers = d.ports;
     PortAnswer {
         number: 0,
-        ports: registers.states(),
+        ports: port_states::states(registers),
     }
 }
 

@@ -2,9 +2,9 @@
 -- Assumes nothing.
 use Prim.Native.Nat.{ℕ}
 use mathlib.Core.Bool.{Bool, _&&_}
-use mathlib.Core.List.{List, [], _∷_}
+use mathlib.Core.List.{List}
 use lib.ListN.{length, take}
-use Rattle.refusals.specs.Refusals.{chainRefusal, soundRefusal, clashRefusal, addressRefusal, familyRefusal, firstOf}
+use Rattle.refusals.specs.Refusals.{chainRefusal, soundRefusal, clashRefusal, addressRefusal, familyRefusal, inOrder}
 use Rattle.device.specs.declared.Device.{Device}
 use Rattle.calls.specs.Calls.{give as giveChain, ask as askChain}
 use Rattle.calls.specs.CallRefusals.{familiesBelow, allSound, refusalBy}
@@ -16,7 +16,7 @@ use Rattle.bus.specs.BusCalls.{BusCall, start, put, get, stop, give, ask
 -- of a start, a byte or a stop on n parts of these families, by whether the records and the bus state are sound; the first n straps count
 abbrev pub wireRefusal : ℕ → List ℕ → Bool → List ℕ → ℕ
 wireRefusal n fs sound σ =
-    firstOf (chainRefusal n ∷ soundRefusal sound ∷ clashRefusal (distinct (take n σ)) ∷ addressRefusal (sevenBits (take n σ)) ∷ familyRefusal (familiesBelow 1 fs) ∷ [])
+    inOrder (chainRefusal n) 0 0 0 (soundRefusal sound) (clashRefusal (distinct (take n σ))) (addressRefusal (sevenBits (take n σ))) (familyRefusal (familiesBelow 1 fs)) 0 0 0
 
 -- of any call on n parts
 abbrev pub busRefusalBy : ℕ → List ℕ → Bool → List ℕ → BusCall → ℕ

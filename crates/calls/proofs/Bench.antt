@@ -5,7 +5,10 @@ use Rattle.wire.specs.Bits.{bits, value, unpack, byteAt, pack, wordAt}
 use Rattle.wire.specs.Wire.{string, words, wire, answer, shifted}
 use Rattle.device.specs.Taken.{taken}
 use Rattle.device.specs.Families.{takes, pinned, soundRecord}
-use Rattle.port_registers.specs.Ports.{portTaken, portData, portPinned, soundPorts, portStates}
+use Rattle.port_registers.specs.Levels.{upperBits, directions, levels}
+use Rattle.port_registers.specs.PortRegisters.{replaced}
+use Rattle.port_registers.specs.PortTaken.{settled, taken as portTaken, pinned as portPinned}
+use Rattle.port_states.specs.PortStates.{statesOf}
 use Rattle.plans.specs.Words.{every}
 use Rattle.plans.specs.Check.{below, same, acceptedWords, acceptedList}
 use Rattle.plans.specs.Least.{total}
@@ -17,7 +20,7 @@ use Rattle.calls.specs.CallLists.{afterAll, numbers, replies}
 use Rattle.calls.specs.Examples.{rows, numberRows, answerRows, markRows, planRows, lookBackRows, Examples}
 
 bench : Agree rows
-unfolding tabulate bits value unpack byteAt pack wordAt string words wire answer shifted taken takes portTaken portData soundPorts portPinned portStates familiesBelow soundRecord pinned allSound number after reply afterAll numbers replies
+unfolding portTaken portPinned settled levels directions upperBits replaced statesOf tabulate bits value unpack byteAt pack wordAt string words wire answer shifted taken takes familiesBelow soundRecord pinned allSound number after reply afterAll numbers replies
 bench = refl
 
 bench-wires : WireExamples
@@ -28,19 +31,19 @@ unfolding tabulate familiesBelow soundRecord pinned allSound number
 bench-numbers = refl
 
 bench-answers : Agree answerRows
-unfolding tabulate taken takes portTaken portData soundPorts portPinned portStates familiesBelow soundRecord pinned allSound number after reply afterAll
+unfolding tabulate taken takes familiesBelow soundRecord pinned allSound number after reply afterAll
 bench-answers = refl
 
 bench-marks : Agree markRows
-unfolding bits value unpack byteAt pack wordAt string words wire answer shifted taken takes portTaken portData soundPorts portPinned portStates tabulate familiesBelow soundRecord pinned allSound number after reply afterAll
+unfolding bits value unpack byteAt pack wordAt string words wire answer shifted taken takes tabulate familiesBelow soundRecord pinned allSound number after reply afterAll
 bench-marks = refl
 
 bench-plans : Agree planRows
-unfolding tabulate total steps planBy largest accesses planned below same every acceptedWords acceptedList taken takes portTaken portData soundPorts portPinned portStates familiesBelow soundRecord pinned allSound number reply
+unfolding tabulate total steps planBy largest accesses planned below same every acceptedWords acceptedList taken takes familiesBelow soundRecord pinned allSound number reply
 bench-plans = refl
 
 bench-looks : Agree lookBackRows
-unfolding taken takes portTaken portData soundPorts portPinned portStates familiesBelow soundRecord pinned allSound number reply
+unfolding taken takes familiesBelow soundRecord pinned allSound number reply
 bench-looks = refl
 
 pub examples : Examples

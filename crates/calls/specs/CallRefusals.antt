@@ -5,7 +5,7 @@ use mathlib.Core.Bool.{Bool, true, false, not, _&&_}
 use mathlib.Core.List.{List, [], _∷_}
 use lib.Dec.{eqb, ltb}
 use lib.ListN.{length, getD}
-use Rattle.refusals.specs.Refusals.{chainRefusal, driverRefusal, segmentsRefusal, levelsRefusal, brightnessRefusal, lookBackRefusal, planeRefusal, soundRefusal, familyRefusal, lackRefusal, wantedRefusal, listRefusal, firstOf, sizeRefusal}
+use Rattle.refusals.specs.Refusals.{chainRefusal, driverRefusal, segmentsRefusal, levelsRefusal, brightnessRefusal, lookBackRefusal, planeRefusal, soundRefusal, familyRefusal, lackRefusal, wantedRefusal, listRefusal, inOrder, sizeRefusal}
 use Rattle.device.specs.Families.{soundRecord}
 use Rattle.device.specs.declared.Device.{Device}
 use Rattle.plans.specs.Plan.{accesses}
@@ -106,7 +106,7 @@ unfoldable pub allSound : List Device → Bool
 allSound [] = true
 allSound (d ∷ ds) = soundRecord d && allSound ds
 
--- the first that applies to a call on n records: 1 to 7, by whether these are sound, 14, by their families, 12, and 13, which is known
+-- the first that applies to a call on n records of families fs: 7 by whether they are sound, 13 as it is known
 abbrev pub refusalBy : ℕ → List ℕ → Bool → ℕ → Call → ℕ
 refusalBy n fs sound shortest q =
-    firstOf (chainRefusal n ∷ namedRefusal n q ∷ bytesRefusal q ∷ argumentRefusal fs q ∷ soundRefusal sound ∷ familyRefusal (familiesBelow 2 fs) ∷ lackRefusal (lacks fs q) ∷ contentsRefusal n q ∷ shortest ∷ [])
+    inOrder (chainRefusal n) (namedRefusal n q) (bytesRefusal q) (argumentRefusal fs q) (soundRefusal sound) 0 0 (familyRefusal (familiesBelow 2 fs)) (lackRefusal (lacks fs q)) (contentsRefusal n q) shortest

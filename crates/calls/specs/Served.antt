@@ -14,7 +14,7 @@ use Rattle.device.specs.PowerUp.{powerUp}
 use Rattle.device.specs.Steps.{scanned, clocked, shownPlane}
 use Rattle.device.specs.Families.{takes, pinned, interruptOf}
 use Rattle.device.specs.declared.Device.{Device}
-use Rattle.port_registers.specs.Ports.{portStates}
+use Rattle.port_states.specs.PortStates.{statesOf}
 use Rattle.brightness.specs.Brightness.{brightnessOf, rulerOf, rulerCode}
 use Rattle.brightness.specs.declared.Ruler.the-variants.{Nothing}
 use Rattle.look_back.specs.LookBack.{planeNumbered, byteAfter}
@@ -52,7 +52,7 @@ planeCode P0 = 0
 planeCode P1 = 1
 
 -- what a driver answers, from its record and what is lent: the part, the 19 pins, the sixteenths and what rules them, the plane shown, the interrupt, the answer mark,
--- the byte that the words would leave, what each port shows
+-- the byte that the words would leave, what each port drives
 abbrev pub answerTo : Question → Device → List ℕ
 answerTo (plane p0 p1 first last) x = planePart (shownPlane x) p0 p1 first last
 answerTo (planeShown p0 p1 first last) x = planeCode (shownPlane x) ∷ []
@@ -62,7 +62,7 @@ answerTo shown x = planeCode (shownPlane x) ∷ []
 answerTo interrupt x = interruptOf x ∷ []
 answerTo answerMark x = x .«answer_mark» ∷ []
 answerTo (lookBack p i ws) x = byteAfter x (planeNumbered p) i ws ∷ []
-answerTo ports x = portStates (x .ports)
+answerTo ports x = statesOf (x .ports)
 
 -- a refused answer: the part is empty, no pin is driven, nothing rules, no port is driven, a number is 0
 abbrev pub refusedTo : Question → List ℕ

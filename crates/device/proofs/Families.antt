@@ -7,8 +7,11 @@ use Rattle.words.specs.declared.Word.{Word}
 use Rattle.words.specs.declared.Word.the-variants.{Write, Read}
 use Rattle.registers.specs.Registers.{dataOf}
 use Rattle.registers.specs.Sound.{soundRegisters}
-use Rattle.port_registers.specs.Ports.{portTaken, portData, portPinned, soundPorts}
-use Rattle.port_registers.proofs.Sound.{port-taken-sound, port-pinned-sound, port-power-up-sound}
+use Rattle.port_words.specs.PortAddresses.{registerAt}
+use Rattle.port_registers.specs.PortRegisters.{dataOf as portData}
+use Rattle.port_registers.specs.PortTaken.{pinned as portPinned}
+use Rattle.port_registers.specs.PortSound.{soundPorts}
+use Rattle.port_registers.proofs.Sound.{soundness as port-soundness}
 use Rattle.device.specs.Record.{withPins, withShift, withMark, withPorts}
 use Rattle.device.specs.Sound.{soundOf}
 use Rattle.device.specs.Taken.{answerWord, obeyed, taken}
@@ -69,16 +72,10 @@ old-word d w =
     (λ e. rw (taken-ports d w, shift-word .marked d w, and-left (soundPorts (d .ports)) (ltb (d .«answer_mark») 2) e) (mark-small (bit 15 w)))
 
 ports-word : (d : Device) (w : ℕ) → soundRecord d ≡ true → soundRecord (portsTaken d w) ≡ true
-ports-word d w s = go (bit 15 w)
-  where
-    by : (m v : ℕ) → ltb m 2 ≡ true → soundRecord (withMark (withShift (withPorts d (portTaken (d .ports) w)) v) m) ≡ true
-    by m v h =
-        sound-by d (withMark (withShift (withPorts d (portTaken (d .ports) w)) v) m) refl
-        (λ e. rw (registers-sound d e, h, command-sound d e))
-        (λ e. rw (port-taken-sound (d .ports) w (and-left (soundPorts (d .ports)) (ltb (d .«answer_mark») 2) e), h)) s
-    go : (b : Bool) → soundRecord (if b (withMark (withShift (withPorts d (portTaken (d .ports) w)) (answerWord w (portData (d .ports) (w / 256 % 128)))) 1) (withMark (withShift (withPorts d (portTaken (d .ports) w)) w) 0)) ≡ true
-    go true = by 1 (answerWord w (portData (d .ports) (w / 256 % 128))) refl
-    go false = by 0 w refl
+ports-word d w =
+    sound-by d (portsTaken d w) refl
+    (λ e. rw (registers-sound d e, mark-small (bit 15 w), command-sound d e))
+    (λ e. rw (port-soundness .after-word (d .ports) w (and-left (soundPorts (d .ports)) (ltb (d .«answer_mark») 2) e), mark-small (bit 15 w)))
 
 word-sound : (d : Device) (w : ℕ) → soundRecord d ≡ true → soundRecord (takes d w) ≡ true
 unfolding takes
@@ -93,7 +90,7 @@ pins-sound d l h g s = go (eqb (d .family) 1) refl s
     go true e s =
         let z : eqb (d .family) 0 ≡ false = rw (eqb-true (d .family) 1 e) in
         let s′ : portSound d ≡ true = rw z at s in
-        rw (z, e, port-pinned-sound (d .ports) l (g (eqb-true (d .family) 1 e)) (and-left (soundPorts (d .ports)) (ltb (d .«answer_mark») 2) s′), and-right (soundPorts (d .ports)) (ltb (d .«answer_mark») 2) s′)
+        rw (z, e, port-soundness .after-pins (d .ports) l (g (eqb-true (d .family) 1 e)) (and-left (soundPorts (d .ports)) (ltb (d .«answer_mark») 2) s′), and-right (soundPorts (d .ports)) (ltb (d .«answer_mark») 2) s′)
     go false e s = other (eqb (d .family) 0) refl s
       where
         other : (a : Bool) → eqb (d .family) 0 ≡ a → if a (soundOf d) true ≡ true → if a (soundOf (withPins d l)) (if (eqb (d .family) 1) (portSound d) true) ≡ true
@@ -104,7 +101,7 @@ sound-steps : SoundSteps
 unfolding soundRecord commanded received sent
 sound-steps =
     record {
-      at-power-up = λ fitted. (refl, rw port-power-up-sound);
+      at-power-up = λ fitted. (refl, refl);
       after-word = word-sound;
       after-scan = λ x a b c d. sound-by x (scanned x a b c d) refl (soundness .after-scan x a b c d) (λ e. e);
       after-pins = pins-sound;
@@ -122,40 +119,25 @@ word-write d w e = elim (eqb (d .family) 1) as (λ b. if b (portsTaken d w) (tak
 word-read : (d : Device) (w : ℕ) → bit 15 w ≡ true → takes d w .shift ≡ answerWord w (dataAt d (w / 256 % 128))
 unfolding takes
 word-read d w e =
-    elim (eqb (d .family) 1) as (λ b. if b (portsTaken d w) (taken d w) .shift ≡ answerWord w (if b (portData (d .ports) (w / 256 % 128)) (dataOf (d .registers) (readAt (w / 256 % 128)))))
+    elim (eqb (d .family) 1) as (λ b. if b (portsTaken d w) (taken d w) .shift ≡ answerWord w (if b (portData (d .ports) (registerAt (w / 256 % 128))) (dataOf (d .registers) (readAt (w / 256 % 128)))))
     [ true ↦ rw e | false ↦ shift-word .after-read d w e ]
-
-ports-mark : (d : Device) (w : ℕ) → portsTaken d w .«answer_mark» ≡ if (bit 15 w) 1 0
-ports-mark d w = go (bit 15 w)
-  where
-    go : (b : Bool) → if b (withMark (withShift (withPorts d (portTaken (d .ports) w)) (answerWord w (portData (d .ports) (w / 256 % 128)))) 1) (withMark (withShift (withPorts d (portTaken (d .ports) w)) w) 0) .«answer_mark» ≡ if b 1 0
-    go true = refl
-    go false = refl
 
 word-mark : (d : Device) (w : ℕ) → takes d w .«answer_mark» ≡ if (bit 15 w) 1 0
 unfolding takes
-word-mark d w = elim (eqb (d .family) 1) as (λ b. if b (portsTaken d w) (taken d w) .«answer_mark» ≡ if (bit 15 w) 1 0) [ true ↦ ports-mark d w | false ↦ shift-word .marked d w ]
+word-mark d w = elim (eqb (d .family) 1) as (λ b. if b (portsTaken d w) (taken d w) .«answer_mark» ≡ if (bit 15 w) 1 0) [ true ↦ refl | false ↦ shift-word .marked d w ]
 
 -- ---- what is kept
--- a field that neither way of `portsTaken` touches
-ports-keeps : {A : Type 0} (f : Device → A) → ((m v : ℕ) (d : Device) (w : ℕ) → f (withMark (withShift (withPorts d (portTaken (d .ports) w)) v) m) ≡ f d) → (d : Device) (w : ℕ) → f (portsTaken d w) ≡ f d
-ports-keeps f k d w = go (bit 15 w)
-  where
-    go : (b : Bool) → f (if b (withMark (withShift (withPorts d (portTaken (d .ports) w)) (answerWord w (portData (d .ports) (w / 256 % 128)))) 1) (withMark (withShift (withPorts d (portTaken (d .ports) w)) w) 0)) ≡ f d
-    go true = k 1 (answerWord w (portData (d .ports) (w / 256 % 128))) d w
-    go false = k 0 w d w
-
 pub takes-family : (d : Device) (w : ℕ) → takes d w .family ≡ d .family
 unfolding takes
-takes-family d w = elim (eqb (d .family) 1) as (λ b. if b (portsTaken d w) (taken d w) .family ≡ d .family) [ true ↦ ports-keeps (λ d. d .family) (λ m v d w. refl) d w | false ↦ taken-family d w ]
+takes-family d w = elim (eqb (d .family) 1) as (λ b. if b (portsTaken d w) (taken d w) .family ≡ d .family) [ true ↦ refl | false ↦ taken-family d w ]
 
 takes-fitted : (d : Device) (w : ℕ) → takes d w .fitted ≡ d .fitted
 unfolding takes
-takes-fitted d w = elim (eqb (d .family) 1) as (λ b. if b (portsTaken d w) (taken d w) .fitted ≡ d .fitted) [ true ↦ ports-keeps (λ d. d .fitted) (λ m v d w. refl) d w | false ↦ fitted-byte .after-word d w ]
+takes-fitted d w = elim (eqb (d .family) 1) as (λ b. if b (portsTaken d w) (taken d w) .fitted ≡ d .fitted) [ true ↦ refl | false ↦ fitted-byte .after-word d w ]
 
 takes-command : (d : Device) (w : ℕ) → takes d w .command ≡ d .command
 unfolding takes
-takes-command d w = elim (eqb (d .family) 1) as (λ b. if b (portsTaken d w) (taken d w) .command ≡ d .command) [ true ↦ ports-keeps (λ d. d .command) (λ m v d w. refl) d w | false ↦ both-buses .address d .by-word w ]
+takes-command d w = elim (eqb (d .family) 1) as (λ b. if b (portsTaken d w) (taken d w) .command ≡ d .command) [ true ↦ refl | false ↦ both-buses .address d .by-word w ]
 
 word-kept : (d : Device) (w : ℕ) → Kept d (takes d w)
 word-kept d w =
@@ -199,7 +181,7 @@ both-families =
       by-commanded = λ d v. record { family = refl; fitted = refl; ports = λ n. refl };
       by-received = λ d v. record { family = refl; fitted = refl; ports = λ n. refl };
       by-sent = λ d. record { family = refl; fitted = refl; ports = λ n. refl };
-      registers-by-word = λ d w e. rw (eq-eqb (d .family) 1 e) (ports-keeps (λ d. d .registers) (λ m v d w. refl) d w);
+      registers-by-word = λ d w e. rw (eq-eqb (d .family) 1 e);
       registers-by-pins = λ d l e. rw (eq-eqb (d .family) 1 e);
       command-by-word = takes-command;
     }

@@ -8,7 +8,7 @@ use Rattle.digits.specs.Digits.{eight}
 use Rattle.digits.specs.declared.Planes.{Planes}
 use Rattle.controls.specs.declared.Controls.{Controls}
 use Rattle.controls.specs.declared.Config.{Config}
-use Rattle.port_registers.specs.Ports.{portPowerUp}
+use Rattle.port_registers.specs.PortPowerUp.{powerUp as portPowerUp}
 use Rattle.device.specs.Record.{withFamily}
 use Rattle.device.specs.declared.Device.{Device}
 

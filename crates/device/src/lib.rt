@@ -1,5 +1,6 @@
 // One driver by value: its record, the word that it takes, and the other steps that change it.
 ghost use mathlib.Core.Path.{_≡_};
+ghost use Rattle.ground.specs.Choice.{if, bit};
 ghost use Rattle.words.specs.declared.Word.the-variants.{Write, Read};
 ghost use Rattle.device.specs.Record.{withRegisters, withPins, withShift, withFitted, withMark, withCommand, withPorts};
 ghost use Rattle.device.specs.PowerUp.{powerUp, powerUp6957};
@@ -189,15 +190,9 @@ impl Device {
         ensures { λ r. ⌜ r ≡ portsTaken self word ⌝ }
     {
         let old = self.ports;
-        let v = old.read_data((word / 256 % 128) as u8);
-        let new = old.taken(word);
-        let after = self.with_ports(new);
-        if word / 32768 % 2 == 1 {
-            let answer = after.with_shift(answer_word(word, v));
-            return answer.with_mark(1);
-        }
-        let left = after.with_shift(word);
-        left.with_mark(0)
+        let after = self.with_ports(old.taken(word));
+        let left = after.with_shift(old.shift_word(word));
+        left.with_mark(mark_of(word))
     }
 
     // By either.
@@ -236,7 +231,7 @@ impl Device {
     {
         if self.family == 1 {
             let old = self.ports;
-            return self.with_ports(old.with_pins(levels));
+            return self.with_ports(old.pinned(levels));
         }
         self.old_with_pins(levels)
     }
@@ -347,6 +342,13 @@ impl Device {
         }
         true
     }
+}
+
+// The answer mark that a word leaves: its D15.
+fn mark_of(word: u16) -> u8
+    ensures { λ r. ⌜ r ≡ if (bit 15 word) 1 0 ⌝ }
+{
+    if word / 32768 % 2 == 1 { 1 } else { 0 }
 }
 
 // A shift word with its D7 to D0 replaced.

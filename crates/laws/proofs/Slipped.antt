@@ -12,11 +12,11 @@ use Rattle.wire.proofs.LineLaws.{length-string, length-answer}
 use Rattle.wire.proofs.WholeLaws.{whole, word-shifted, answer-front, sent-last}
 use Rattle.registers.specs.Sound.{soundRegisters}
 use Rattle.device.specs.PowerUp.{powerUp}
-use Rattle.device.specs.Record.{withShift, withMark, withPorts}
-use Rattle.port_registers.specs.Ports.{portTaken, portData, soundPorts}
+use Rattle.device.specs.Record.{withShift, withMark}
+use Rattle.port_registers.specs.PortSound.{soundPorts}
 use Rattle.device.specs.Families.{portsTaken, takes, pinned, portSound, soundRecord, families}
 use Rattle.device.specs.Sound.{soundOf}
-use Rattle.device.specs.Taken.{taken, obeyed, answerWord}
+use Rattle.device.specs.Taken.{taken, obeyed}
 use Rattle.device.specs.declared.Device.{Device}
 use Rattle.calls.specs.Calls.{Call, access}
 use Rattle.calls.specs.CallRefusals.{familiesBelow, allSound}
@@ -46,20 +46,11 @@ old-apart d s m w = go (wordOf w)
     go (Write r v) = refl
     go (Read r) = refl
 
-ports-apart : (d : Device) (s m w : ℕ) → portsTaken (withMark (withShift d s) m) w ≡ portsTaken d w
-ports-apart d s m w = go (bit 15 w)
-  where
-    go : (b : Bool)
-        → if b (withMark (withShift (withPorts (withMark (withShift d s) m) (portTaken (d .ports) w)) (answerWord w (portData (d .ports) (w / 256 % 128)))) 1) (withMark (withShift (withPorts (withMark (withShift d s) m) (portTaken (d .ports) w)) w) 0)
-        ≡ if b (withMark (withShift (withPorts d (portTaken (d .ports) w)) (answerWord w (portData (d .ports) (w / 256 % 128)))) 1) (withMark (withShift (withPorts d (portTaken (d .ports) w)) w) 0)
-    go true = refl
-    go false = refl
-
 taken-apart : (d : Device) (s m w : ℕ) → takes (withMark (withShift d s) m) w ≡ takes d w
 unfolding takes
 taken-apart d s m w =
     elim (eqb (d .family) 1) as (λ b. if b (portsTaken (withMark (withShift d s) m) w) (taken (withMark (withShift d s) m) w) ≡ if b (portsTaken d w) (taken d w))
-    [ true ↦ ports-apart d s m w | false ↦ old-apart d s m w ]
+    [ true ↦ refl | false ↦ old-apart d s m w ]
 
 taken-alike : (d e : Device) (w : ℕ) → Alike d e → takes d w ≡ takes e w
 taken-alike d e w a = sym (taken-apart d (e .shift) (e .«answer_mark») w) ∙ ap (λ (x : Device). takes x w) a

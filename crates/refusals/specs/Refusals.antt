@@ -84,6 +84,11 @@ abbrev pub firstOf : List ℕ → ℕ
 firstOf [] = 0
 firstOf (k ∷ ks) = if (eqb k 0) (firstOf ks) k
 
+-- the one order of all calls on records: 1, 2, 3 to 5, 6, 7, 10, 11, 14 by a family or by a call that is lacked, 12, 13; each is its number where it applies, else 0
+abbrev pub inOrder : (one two bytes six seven ten eleven family lack twelve thirteen : ℕ) → ℕ
+inOrder one two bytes six seven ten eleven family lack twelve thirteen =
+    firstOf (one ∷ two ∷ bytes ∷ six ∷ seven ∷ ten ∷ eleven ∷ family ∷ lack ∷ twelve ∷ thirteen ∷ [])
+
 -- 3 to 5, of an access
 abbrev pub sizeRefusal : ℕ → ℕ → ℕ → ℕ
 sizeRefusal c sent room = firstOf (clocksRefusal c ∷ sentRefusal c sent ∷ roomRefusal c room ∷ [])

@@ -1,6 +1,6 @@
 -- `chain::max6957_ports` has the shape of `Asks.antt`.
 -- Assumes nothing.
-use Rattle.port_registers.specs.Ports.{portStates}
+use Rattle.port_states.specs.PortStates.{statesOf}
 use lib.ListN.{replicate}
 use Rattle.calls.specs.Calls.{ports}
 use Rattle.chain.proofs.Answers.{portAnswer}
@@ -16,5 +16,5 @@ max6957-ports-spec =
     asks-spec own.Symbol.name refused.Symbol.name work.Symbol.name 0 [] (held portAnswer) (λ p. ports)
     (λ r ds x. x ≡ record { number = r .number; records = ds; back = r .ports })
     (λ p r. r ≡ record { number = p .0; ports = replicate 28 0 }) (λ n p r ds e. rw e)
-    (λ p r. r ≡ record { number = 0; ports = portStates (p .0 .ports) }) (λ d p r ds z e. rw e)
+    (λ p r. r ≡ record { number = 0; ports = statesOf (p .0 .ports) }) (λ d p r ds z e. rw e)
     this.Code.env this.Key.name this.Code.unfolded refl own.Met.met refused.Met.met work.Met.met

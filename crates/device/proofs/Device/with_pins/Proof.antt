@@ -5,7 +5,7 @@ use Rattle.device.proofs.Device.with_pins.Tie as tie
 
 returns : tie.Need-returns
 unfolding pinned
-returns c = simp (c .before .with-pins .ensures, c .with-ports .ensures) (search tests)
+returns c = simp (c .before .pinned .ensures, c .with-ports .ensures) (search tests)
 
 returns-2 : tie.Need-returns-2
 unfolding pinned

@@ -31,3 +31,16 @@ pub fn put(byte: &mut u8, k: usize, to: bool) {
         .collect();
     *byte = byte_of(&bits);
 }
+
+/// Puts bit k of a row of pins.
+pub fn put_in_row(row: &mut u32, k: usize, to: bool) {
+    let mut place = 1;
+    for _ in 0..k {
+        place *= 2;
+    }
+    match (bit(*row, k), to) {
+        (false, true) => *row += place,
+        (true, false) => *row -= place,
+        _ => {}
+    }
+}

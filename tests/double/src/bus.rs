@@ -1,7 +1,8 @@
 //! The two-wire bus of the MAX6955 (request 3): what a start, a stop and a byte either way do.
 
 use crate::bits::bit;
-use crate::calls::chain_length_bad;
+use crate::families::families_of;
+use crate::numbers::{any_lacks_number, chain_length_bad, first_of, unsound_number};
 use crate::record::Record;
 use crate::registers::{read, write};
 
@@ -101,16 +102,20 @@ pub fn bus_call(parts: &mut [Record], bus: Bus, straps: &Straps, call: BusCall) 
     }
 }
 
-/// The first of 1, 7, 10 and 11 that applies.
+/// The first of 1, 7, 10, 11 and 14 that applies.
 fn number(parts: &[Record], bus: Bus, straps: &Straps) -> u8 {
     let n = parts.len();
     if chain_length_bad(n) {
-        1
-    } else if !parts.iter().all(Record::sound) || State::of(n, bus).is_none() {
-        7
-    } else {
-        straps_number(n, straps)
+        return 1;
     }
+    if State::of(n, bus).is_none() {
+        return 7;
+    }
+    first_of(&[
+        unsound_number(parts),
+        straps_number(n, straps),
+        any_lacks_number(&families_of(parts)),
+    ])
 }
 
 /// 10 where two of 1 to 16 parts have one address, then 11 where one is above 127; the straps of other parts don't count.

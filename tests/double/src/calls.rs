@@ -1,12 +1,16 @@
-//! The calls, their numbers and their answers ("Numbers a call may give").
+//! The calls and their answers.
 
 use crate::blink::{add_clocks, shown, Plane};
 use crate::brightness::{brightness, Brightness};
+use crate::families::PORT_DRIVER;
 use crate::keys::scan;
 use crate::look_back::look_back;
+use crate::numbers::{access_number, number};
+use crate::port_states::{states, NO_PORT_DRIVEN};
 use crate::record::Record;
 use crate::segments::{pins, NO_PIN_DRIVEN};
-use crate::wire::{bytes_needed, shift};
+use crate::transition::new_levels;
+use crate::wire::shift;
 
 /// One call on a chain with what it lends; drivers count from 1, nearest the controller.
 #[derive(Clone, Debug, PartialEq, Eq)]
@@ -19,7 +23,7 @@ pub enum Call {
     },
     /// One scan of the key groups A to D.
     Scan { driver: usize, keys: [u8; 4] },
-    /// New levels of the pins P0 to P4.
+    /// New levels of the pins P0 to P4, or of a MAX6957's P4 to P31, bit k for port k+4.
     Pins { driver: usize, levels: u32 },
     /// Master clocks for the blink count.
     Clocks { driver: usize, clocks: u32 },
@@ -43,7 +47,7 @@ pub enum Call {
     Brightness { driver: usize, digit: usize },
     /// The plane shown: 0 for P0, 1 for P1.
     Shown { driver: usize },
-    /// The interrupt: 1 when raised.
+    /// The interrupt, of a MAX6957 the latch of INT: 1 when raised.
     Interrupt { driver: usize },
     /// The answer mark: 1 when the latest access loaded the shift word by a read.
     AnswerMark { driver: usize },
@@ -54,6 +58,8 @@ pub enum Call {
         digit: usize,
         words: Vec<u16>,
     },
+    /// The MAX6957's own call, a byte for each of P4 to P31: 0 undriven, 1 low, 2 high, 2+s an LED current of s sixteenths.
+    Ports { driver: usize },
 }
 
 /// The number of a call and the bytes it gives back.
@@ -70,7 +76,7 @@ pub fn call(chain: &mut [Record], call: &Call) -> Reply {
         let number = access(chain, *clocks, sent, &mut back);
         return Reply { number, back };
     }
-    let number = number(argument_number(chain.len(), call), chain);
+    let number = number(chain, call);
     let index = named_driver(call).and_then(|driver| driver.checked_sub(1));
     let back = match index.and_then(|index| chain.get_mut(index)) {
         Some(record) if number == 0 => serve(record, call),
@@ -81,79 +87,11 @@ pub fn call(chain: &mut [Record], call: &Call) -> Reply {
 
 /// An access on lent bytes; its number. Refused, it changes nothing.
 pub fn access(chain: &mut [Record], clocks: usize, sent: &[u8], answer: &mut [u8]) -> u8 {
-    let arguments = access_number(chain.len(), clocks, sent.len(), answer.len());
-    let number = number(arguments, chain);
+    let number = access_number(chain, clocks, sent.len(), answer.len());
     if number == 0 {
         shift(chain, clocks, sent, answer);
     }
     number
-}
-
-/// The arguments' number if they have one, otherwise 7 where a record isn't sound.
-fn number(arguments: u8, chain: &[Record]) -> u8 {
-    if arguments == 0 && !chain.iter().all(Record::sound) {
-        7
-    } else {
-        arguments
-    }
-}
-
-/// The lowest of 1 to 6 that applies to a chain of n records and the arguments.
-pub fn argument_number(n: usize, call: &Call) -> u8 {
-    if let Call::Access { clocks, sent, room } = call {
-        return access_number(n, *clocks, sent.len(), room.len());
-    }
-    if chain_length_bad(n) {
-        return 1;
-    }
-    match named_driver(call) {
-        Some(driver) if driver == 0 || driver > n => 2,
-        _ if value_bad(call) => 6,
-        _ => 0,
-    }
-}
-
-/// The numbers 1, 3, 4 and 5 of an access.
-fn access_number(n: usize, clocks: usize, sent: usize, room: usize) -> u8 {
-    if chain_length_bad(n) {
-        1
-    } else if clocks > 4096 {
-        3
-    } else if sent < bytes_needed(clocks) {
-        4
-    } else if room < bytes_needed(clocks) {
-        5
-    } else {
-        0
-    }
-}
-
-/// Number 1: 0 or more than 16 records.
-pub fn chain_length_bad(n: usize) -> bool {
-    n == 0 || n > 16
-}
-
-/// Number 6.
-fn value_bad(call: &Call) -> bool {
-    match call {
-        Call::Pins { levels, .. } => *levels > 31,
-        Call::Plane {
-            p0,
-            p1,
-            first,
-            last,
-            ..
-        } => *first > 15 || *last > 15 || last < first || p0.len() != 16 || p1.len() != 16,
-        Call::Segments {
-            cathode,
-            font14,
-            font16,
-            ..
-        } => *cathode > 7 || font14.len() != 128 || font16.len() != 128,
-        Call::Brightness { digit, .. } => *digit > 15,
-        Call::LookBack { plane, digit, .. } => *plane > 1 || *digit > 15,
-        _ => false,
-    }
 }
 
 /// The driver that a call names; an access names none.
@@ -169,7 +107,8 @@ pub fn named_driver(call: &Call) -> Option<usize> {
         | Call::Shown { driver }
         | Call::Interrupt { driver }
         | Call::AnswerMark { driver }
-        | Call::LookBack { driver, .. } => Some(*driver),
+        | Call::LookBack { driver, .. }
+        | Call::Ports { driver } => Some(*driver),
     }
 }
 
@@ -187,7 +126,8 @@ pub fn to_driver(call: &Call, to: usize) -> Call {
         | Call::Shown { driver }
         | Call::Interrupt { driver }
         | Call::AnswerMark { driver }
-        | Call::LookBack { driver, .. } => *driver = to,
+        | Call::LookBack { driver, .. }
+        | Call::Ports { driver } => *driver = to,
     }
     other
 }
@@ -197,8 +137,25 @@ pub fn serve(record: &mut Record, call: &Call) -> Vec<u8> {
     match call {
         Call::Access { .. } => {}
         Call::Scan { keys, .. } => scan(record, *keys),
-        Call::Pins { levels, .. } => record.pins = *levels,
+        Call::Pins { levels, .. } => replace_pins(record, *levels),
         Call::Clocks { clocks, .. } => add_clocks(record, *clocks),
+        _ => return answer(record, call),
+    }
+    Vec::new()
+}
+
+/// Pin levels replace those of the driver's family.
+fn replace_pins(record: &mut Record, levels: u32) {
+    if record.family == PORT_DRIVER {
+        new_levels(&mut record.port_driver, levels);
+    } else {
+        record.pins = levels;
+    }
+}
+
+/// The answer of an accepted call that only reads; the others have none.
+fn answer(record: &Record, call: &Call) -> Vec<u8> {
+    match call {
         Call::Plane {
             p0,
             p1,
@@ -207,34 +164,43 @@ pub fn serve(record: &mut Record, call: &Call) -> Vec<u8> {
             ..
         } => {
             let plane = if shown(record) == Plane::P0 { p0 } else { p1 };
-            return plane[*first..=*last].to_vec();
+            plane[*first..=*last].to_vec()
         }
         Call::Segments {
             cathode,
             font14,
             font16,
             ..
-        } => {
-            return pins(record, *cathode, font14, font16);
-        }
-        Call::Brightness { digit, .. } => return brightness(record, *digit).bytes(),
-        Call::Shown { .. } => return vec![u8::from(shown(record) == Plane::P1)],
-        Call::Interrupt { .. } => return vec![record.interrupt],
-        Call::AnswerMark { .. } => return vec![record.answer_mark],
+        } => pins(record, *cathode, font14, font16),
+        Call::Brightness { digit, .. } => brightness(record, *digit).bytes(),
+        Call::Shown { .. } => vec![u8::from(shown(record) == Plane::P1)],
+        Call::Interrupt { .. } => vec![interrupt(record)],
+        Call::AnswerMark { .. } => vec![record.answer_mark],
         Call::LookBack {
             plane,
             digit,
             words,
             ..
-        } => return vec![look_back(record, *plane, *digit, words)],
+        } => vec![look_back(record, *plane, *digit, words)],
+        Call::Ports { .. } => states(&record.port_driver),
+        _ => Vec::new(),
     }
-    Vec::new()
 }
 
-/// What a refused call gives back: 0 for a number, no pin driven, no ruler, an empty part.
+/// The interrupt of the driver's family.
+fn interrupt(record: &Record) -> u8 {
+    if record.family == PORT_DRIVER {
+        record.port_driver.interrupt
+    } else {
+        record.interrupt
+    }
+}
+
+/// What a refused call gives back: 0 for a number, no pin or port driven, no ruler, an empty part.
 fn refused(call: &Call) -> Vec<u8> {
     match call {
         Call::Segments { .. } => NO_PIN_DRIVEN.to_vec(),
+        Call::Ports { .. } => NO_PORT_DRIVEN.to_vec(),
         Call::Brightness { .. } => Brightness::REFUSED.bytes(),
         Call::Shown { .. }
         | Call::Interrupt { .. }

@@ -1,7 +1,8 @@
 //! A part alone on a two-wire bus (request 3): which calls of a list are its own, told by their arguments alone.
 
 use crate::bus::{straps_number, Bus, BusCall, Straps};
-use crate::calls::{argument_number, chain_length_bad, named_driver, to_driver, Call};
+use crate::calls::{named_driver, to_driver, Call};
+use crate::numbers::{any_lacks_number, chain_length_bad, number_alone};
 
 /// A call of a list: one of the bus, or another that names a part.
 #[derive(Clone, Debug, PartialEq, Eq)]
@@ -10,9 +11,9 @@ pub enum Step {
     Other(Call),
 }
 
-/// Part i of n on a bus with these straps.
+/// Part i of a row of these families on a bus with these straps.
 pub struct LonePart {
-    pub n: usize,
+    pub families: Vec<u8>,
     pub i: usize,
     pub straps: Straps,
 }
@@ -51,12 +52,20 @@ impl LonePart {
         own
     }
 
-    /// The number of a call is 0 by its arguments; records and bus state are sound.
+    /// The number of a call is 0 by its arguments and the families; records and bus state are sound.
     fn accepted(&self, step: &Step) -> bool {
         match step {
-            Step::Bus(_) => !chain_length_bad(self.n) && straps_number(self.n, &self.straps) == 0,
-            Step::Other(call) => argument_number(self.n, call) == 0,
+            Step::Bus(_) => self.bus_accepted(),
+            Step::Other(call) => number_alone(&self.families, call) == 0,
         }
+    }
+
+    /// Starts, bytes and stops are refused for the row, the straps or a driver that has no such bus.
+    fn bus_accepted(&self) -> bool {
+        let n = self.families.len();
+        !chain_length_bad(n)
+            && straps_number(n, &self.straps) == 0
+            && any_lacks_number(&self.families) == 0
     }
 
     fn first_turn(&self, bus: Bus) -> Turn {

@@ -1,6 +1,7 @@
 //! A driver's picture, its planes P0 and then P1, and the numbers of the calls that are given wanted ones (request 6).
 
-use crate::calls::chain_length_bad;
+use crate::families::families_of;
+use crate::numbers::{any_lacks_number, chain_length_bad, first_of, unsound_number};
 use crate::record::Record;
 
 /// The 32 plane bytes of one driver, P0 first.
@@ -27,15 +28,16 @@ pub fn pictures(wanted: &[u8]) -> &[Picture] {
     wanted.as_chunks().0
 }
 
-/// The first of 1, 7 and 12 that applies to a chain and the wanted bytes.
+/// The first of 1, 7, 14 and 12 that applies to a chain and the wanted bytes.
 pub fn wanted_number(chain: &[Record], wanted: &[u8]) -> u8 {
-    if chain_length_bad(chain.len()) {
-        1
-    } else if !chain.iter().all(Record::sound) {
-        7
-    } else if wanted.len() != 32 * chain.len() {
-        12
-    } else {
-        0
+    let n = chain.len();
+    if chain_length_bad(n) {
+        return 1;
     }
+    let wrong_length = if wanted.len() != 32 * n { 12 } else { 0 };
+    first_of(&[
+        unsound_number(chain),
+        any_lacks_number(&families_of(chain)),
+        wrong_length,
+    ])
 }

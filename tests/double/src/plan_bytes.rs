@@ -1,6 +1,6 @@
 //! The bytes to send for one access of a list of words (request 6).
 
-use crate::calls::chain_length_bad;
+use crate::numbers::chain_length_bad;
 
 /// Writes the 2n bytes of access number `access` (from 0) to the front of the room.
 /// Driver n's word comes first, each word's high byte first.

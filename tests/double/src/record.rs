@@ -1,8 +1,11 @@
 //! The device record ("What the double covers").
 
 use crate::blink::CYCLE;
+use crate::families::{OLD, PORT_DRIVER};
+use crate::port_driver::PortDriver;
 
 /// One driver's registers, planes, key state, pin levels, blink count, shift word, answer mark and command address.
+/// A record of one family holds the other's fields too, and leaves them alone.
 #[derive(Clone, Debug, PartialEq, Eq)]
 pub struct Record {
     /// 0x01 decode mode.
@@ -55,10 +58,14 @@ pub struct Record {
     pub command: u8,
     /// Bit d set: a 7-segment pair where the digit type leaves 16 or 7 open.
     pub fitted: u8,
+    /// 0 the MAX6954 and the MAX6955, 1 the MAX6957; the others are unknown.
+    pub family: u8,
+    /// What a MAX6957 has of its own.
+    pub port_driver: PortDriver,
 }
 
 impl Record {
-    /// Table 15, and 0 for what it omits; fitted is 255.
+    /// Table 15, and 0 for what it omits; fitted is 255. The other family's fields are at power-up too.
     pub fn power_up() -> Record {
         let mut plane = [0; 16];
         for byte in plane.iter_mut().take(8) {
@@ -90,11 +97,30 @@ impl Record {
             answer_mark: 0,
             command: 0,
             fitted: 255,
+            family: OLD,
+            port_driver: PortDriver::power_up(),
+        }
+    }
+
+    /// The MAX6957 at power-up (Table 4 of 004): it differs in the family alone.
+    pub fn port_driver_power_up() -> Record {
+        Record {
+            family: PORT_DRIVER,
+            ..Record::power_up()
+        }
+    }
+
+    /// Every field of the record's own family fits its width; an unknown family isn't tested.
+    pub fn sound(&self) -> bool {
+        match self.family {
+            OLD => self.old_sound(),
+            PORT_DRIVER => self.answer_mark <= 1 && self.port_driver.sound(),
+            _ => true,
         }
     }
 
     /// Every field fits its width, and the blink count is below 4,000,000.
-    pub fn sound(&self) -> bool {
+    fn old_sound(&self) -> bool {
         let single = [
             self.test,
             self.i,

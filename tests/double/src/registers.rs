@@ -1,10 +1,13 @@
-//! The register file (Table 6, "Registers") and the word that a driver takes.
+//! The word that a driver takes, and the old family's register file (Table 6, "Registers").
 
 use crate::bits::{bit, byte_of};
 use crate::blink::{phase, Plane};
+use crate::families::{OLD, PORT_DRIVER};
 use crate::keys::read_debounced;
+use crate::port_registers;
 use crate::ports;
 use crate::record::Record;
+use crate::transition::compare;
 
 /// The driver is sent a whole word and obeys it.
 pub fn obey(record: &mut Record, word: u16) {
@@ -17,12 +20,32 @@ pub fn obey(record: &mut Record, word: u16) {
 pub fn take(record: &mut Record) {
     let [high, low] = record.shift.to_be_bytes();
     if bit(high, 7) {
-        let data = read(record, high - 0x80);
+        let data = read_by_family(record, high - 0x80);
         record.shift = u16::from_be_bytes([high, data]);
         record.answer_mark = 1;
     } else {
-        write(record, high, low);
+        write_by_family(record, high, low);
         record.answer_mark = 0;
+    }
+    if record.family == PORT_DRIVER {
+        compare(&mut record.port_driver);
+    }
+}
+
+/// An unknown family has no registers; its words are never taken.
+fn write_by_family(record: &mut Record, address: u8, data: u8) {
+    match record.family {
+        OLD => write(record, address, data),
+        PORT_DRIVER => port_registers::write(&mut record.port_driver, address, data),
+        _ => {}
+    }
+}
+
+fn read_by_family(record: &mut Record, address: u8) -> u8 {
+    match record.family {
+        OLD => read(record, address),
+        PORT_DRIVER => port_registers::read(&mut record.port_driver, address),
+        _ => 0,
     }
 }
 

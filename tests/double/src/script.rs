@@ -1,6 +1,7 @@
 //! What the panel program prints for a script ("Script program").
 
-use crate::calls::{call, chain_length_bad, Call};
+use crate::calls::{call, Call};
+use crate::numbers::chain_length_bad;
 use crate::record::Record;
 use crate::wire::bytes_needed;
 

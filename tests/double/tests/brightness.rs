@@ -156,7 +156,7 @@ fn a_refused_answer_has_no_sixteenths_and_names_none() {
 
 #[test]
 fn a_lone_driver_answers_what_ruled() {
-    let mut lone = Lone::new(1, 1, Record::power_up());
+    let mut lone = Lone::new(&[0], 1, Record::power_up());
     let steps = [
         (0x0000, [0, 1]),
         (0x0440, [0, 2]),

@@ -1,6 +1,5 @@
 pub mod WidthLaws
 pub mod SeenLaws
-pub mod AgainLaws
 pub mod OwnLaws
 pub mod FoundLaws
 pub mod StepLaws

@@ -1,17 +1,17 @@
--- What the records passed tell: whether each is sound by its own family, the highest family, and that of the driver that the call names.
---     seen-start, seen-more        the records one by one.        to-start, to-more        the same where the call names a driver
---     seen-fit, seen-below         all of them are sound, and of a family below k
+-- What the records passed tell: whether each is sound by its own family, and which families there are.
+--     seen-start, seen-more        the records one by one
+--     seen-fit, seen-below         all of them are sound, and of a family below 2 ^ k
 -- Assumes nothing.
-use Rattle.ground.proofs.Names.{ℕ, _+_, _-_, _≤_, _<_, add-one, decLt, arith, Bool, true, false, _&&_, and-assoc, List, [], _∷_, _++_, _≡_, refl, sym, ap, ap₂, _∙_, eqb, leb, ltb, length, getD, take, take-suc, lt-ltb, le-ltb, le-leb, lt-leb, eqb-true, eqb-false, if}
+use Rattle.ground.proofs.Names.{ℕ, _+_, _/_, _%_, _^_, _<_, add-one, arith, Bool, true, false, _&&_, and-assoc, List, [], _∷_, _++_, _≡_, refl, sym, ap, _∙_, bitOr, eqb, ltb, length, getD, take, take-suc, eqb-true, if}
 use mathlib.Core.Bool.{and-true}
-use Rattle.device.specs.Families.{families, soundRecord}
+use Rattle.device.specs.Families.{families, portSound, soundRecord}
 use Rattle.device.specs.PowerUp.{powerUp}
 use Rattle.device.specs.declared.Device.{Device}
 use Rattle.calls.specs.CallRefusals.{familiesBelow, allSound}
-use Rattle.pass.specs.Widths.{greater}
-use Rattle.pass.specs.Seen.{noSeen, seenWith, seenNamed, passedWith, seenOf, namedTo, seenTo, seenFit}
+use Rattle.pass.specs.Widths.{Bytes, AllBytes}
+use Rattle.pass.specs.Seen.{noSeen, portBytes, portsWith, otherWith, seenWith, seenOf, portsFit, seenFit}
 use Rattle.pass.specs.declared.Seen.{Seen}
-use Rattle.pass.proofs.WidthLaws.{greater-small}
+use Rattle.pass.proofs.WidthLaws.{Two, cross, or-small, or-byte}
 
 -- ---- the records one by one
 pub seen-start : (xs : List Device) → noSeen ≡ seenOf noSeen (take 0 xs)
@@ -26,59 +26,83 @@ seen-added s (x ∷ ds) d = seen-added (seenWith s x) ds d
 pub seen-more : (xs : List Device) (k : ℕ) → k < length xs → seenWith (seenOf noSeen (take k xs)) (getD xs k powerUp) ≡ seenOf noSeen (take (k + 1) xs)
 seen-more xs k h = rw (add-one, take-suc xs k powerUp h) (sym (seen-added noSeen (take k xs) (getD xs k powerUp)))
 
--- ---- where the call names a driver
-none-yet : (j v : ℕ) → if (ltb 0 j && leb j 0) v 0 ≡ 0
-none-yet j v = go (decLt 0 j)
-  where
-    go : Dec (0 < j) → if (ltb 0 j && leb j 0) v 0 ≡ 0
-    go (yes p) = rw (lt-ltb 0 j p, lt-leb j 0 p)
-    go (no n) = rw (le-ltb 0 j (omega (arith, n)))
+-- ---- one MAX6957 more
+module _ (s : Seen) (d : Device) (y : Bytes d) where
+  -- a byte of the eight
+  byte-at : (j k v : ℕ) → portBytes d / 2 ^ j % 2 ^ 8 ≡ v → Two (ltb (bitOr (s .first) (portBytes d) / 2 ^ j % 2 ^ 8) (2 ^ k)) (ltb (s .first / 2 ^ j % 2 ^ 8) (2 ^ k)) (ltb v (2 ^ k))
+  byte-at j k v e = or-byte j k (s .first) (portBytes d) v e
 
-pub to-start : (xs : List Device) (j : ℕ) → noSeen ≡ seenTo xs j 0
-unfolding seenOf
-to-start xs j = ap (seenNamed noSeen) (sym (none-yet j (getD xs (j - 1) powerUp .family)))
+  -- which byte is which field
+  bytes-are : (portBytes d / 1 % 256 ≡ d .ports .global)
+      × (portBytes d / 256 % 256 ≡ d .ports .test)
+      × (portBytes d / 65536 % 256 ≡ d .ports .config .m)
+      × (portBytes d / 16777216 % 256 ≡ d .ports .config .i)
+      × (portBytes d / 4294967296 % 256 ≡ d .ports .config .s)
+      × (portBytes d / 1099511627776 % 256 ≡ d .ports .transition .mask)
+      × (portBytes d / 281474976710656 % 256 ≡ d .ports .transition .snapshot)
+      × (portBytes d / 72057594037927936 % 256 ≡ d .ports .transition .detecting)
+  bytes-are = omega (arith, y .port-global, y .port-test, y .port-m, y .port-i, y .port-s, y .mask, y .snapshot, y .detecting)
 
--- the driver that is named isn't the next one
-same-named : (xs : List Device) (j k : ℕ) → (k + 1 ≡ j → ⊥) → namedTo xs j k ≡ namedTo xs j (k + 1)
-same-named xs j k n = ap (λ (b : Bool). if (ltb 0 j && b) (getD xs (j - 1) powerUp .family) 0) (go (decLt k j))
-  where
-    go : Dec (k < j) → leb j k ≡ leb j (k + 1)
-    go (yes p) = lt-leb j k p ∙ sym (lt-leb j (k + 1) (omega (arith, p, n)))
-    go (no q) = le-leb j k (omega (arith, q)) ∙ sym (le-leb j (k + 1) (omega (arith, q)))
+  ports-more : portsFit (portsWith s d) ≡ portsFit s && portSound d
+  ports-more =
+      let b = bytes-are in
+      let c = d .ports .config in
+      let t = d .ports .transition in
+      let levels = cross (or-small 28 (s .stored) (d .ports .stored)) (or-small 28 (s .pins) (d .ports .pins)) in
+      let controls = cross (cross levels (byte-at 0 4 (d .ports .global) (b .0))) (byte-at 8 1 (d .ports .test) (b .1)) in
+      let config = cross (cross (byte-at 16 1 (c .m) (b .2)) (byte-at 24 1 (c .i) (b .3))) (byte-at 32 1 (c .s) (b .4)) in
+      let transition = cross (cross (cross (byte-at 40 7 (t .mask) (b .5)) (byte-at 48 7 (t .snapshot) (b .6))) (byte-at 56 1 (t .detecting) (b .7))) (or-small 1 (s .interrupt) (t .interrupt)) in
+      cross (cross (cross controls config) transition) (or-small 1 (s .mark) (d .«answer_mark»)) .same
 
-next-named : (xs : List Device) (k : ℕ) → namedTo xs (k + 1) (k + 1) ≡ getD xs k powerUp .family
-next-named xs k =
-    let e : k + 1 - 1 ≡ k = omega arith in
-    rw (lt-ltb 0 (k + 1) (omega arith), le-leb (k + 1) (k + 1) (omega arith), e)
-
-named-step : (xs : List Device) (j k : ℕ) → if (eqb (k + 1) j) (getD xs k powerUp .family) (namedTo xs j k) ≡ namedTo xs j (k + 1)
-named-step xs j k = go (eqb (k + 1) j) refl
-  where
-    go : (b : Bool) → eqb (k + 1) j ≡ b → if b (getD xs k powerUp .family) (namedTo xs j k) ≡ namedTo xs j (k + 1)
-    go true e = sym (next-named xs k) ∙ ap (λ (i : ℕ). namedTo xs i (k + 1)) (eqb-true (k + 1) j e)
-    go false e = same-named xs j k (eqb-false (k + 1) j e)
-
-pub to-more : (xs : List Device) (j k : ℕ) → k < length xs → passedWith (seenTo xs j k) (getD xs k powerUp) k j ≡ seenTo xs j (k + 1)
-to-more xs j k h =
-    ap (λ (t : Seen). seenNamed t (if (eqb (k + 1) j) (getD xs k powerUp .family) (namedTo xs j k))) (seen-more xs k h)
-    ∙ ap (seenNamed (seenOf noSeen (take (k + 1) xs))) (named-step xs j k)
+  -- one record more
+  pub seen-next : seenFit (seenWith s d) ≡ seenFit s && soundRecord d
+  unfolding soundRecord
+  seen-next = go (eqb (d .family) 1) refl
+    where
+      swap : (a b c : Bool) → (a && b) && c ≡ (a && c) && b
+      swap true b c = and-swap b c
+        where
+          and-swap : (b c : Bool) → b && c ≡ c && b
+          and-swap true true = refl
+          and-swap true false = refl
+          and-swap false true = refl
+          and-swap false false = refl
+      swap false b c = refl
+      go : (b : Bool) → eqb (d .family) 1 ≡ b → seenFit (if b (portsWith s d) (otherWith s d)) ≡ seenFit s && soundRecord d
+      go true e =
+          let f : d .family ≡ 1 = eqb-true (d .family) 1 e in
+          rw f (ap (λ (b : Bool). s .sound && b) ports-more ∙ sym (and-assoc (s .sound) (portsFit s) (portSound d)))
+      go false e = swap (s .sound) (soundRecord d) (portsFit s)
 
 -- ---- all of them
-fit-of : (s : Seen) (ds : List Device) → seenFit (seenOf s ds) ≡ seenFit s && allSound ds
-unfolding seenOf allSound
-fit-of s [] = sym (and-true (seenFit s))
-fit-of s (d ∷ ds) = fit-of (seenWith s d) ds ∙ and-assoc (seenFit s) (soundRecord d) (allSound ds)
+fit-of : (s : Seen) (ds : List Device) → AllBytes ds → seenFit (seenOf s ds) ≡ seenFit s && allSound ds
+unfolding seenOf allSound AllBytes
+fit-of s [] y = sym (and-true (seenFit s))
+fit-of s (d ∷ ds) y =
+    fit-of (seenWith s d) ds (y .1) ∙ ap (λ (b : Bool). b && allSound ds) (seen-next s d (y .0)) ∙ and-assoc (seenFit s) (soundRecord d) (allSound ds)
 
-pub seen-fit : (ds : List Device) → seenFit (seenOf noSeen ds) ≡ allSound ds
-seen-fit ds = fit-of noSeen ds
+pub seen-fit : (ds : List Device) → AllBytes ds → seenFit (seenOf noSeen ds) ≡ allSound ds
+seen-fit ds y = fit-of noSeen ds y
 
-below-of : (k : ℕ) (s : Seen) (ds : List Device) → ltb (seenOf s ds .highest) k ≡ ltb (s .highest) k && familiesBelow k (families ds)
+families-with : (s : Seen) (d : Device) → seenWith s d .families ≡ bitOr (s .families) (d .family)
+families-with s d = go (eqb (d .family) 1) refl
+  where
+    go : (b : Bool) → eqb (d .family) 1 ≡ b → if b (portsWith s d) (otherWith s d) .families ≡ bitOr (s .families) (d .family)
+    go true e = rw (eqb-true (d .family) 1 e)
+    go false e = refl
+
+below-of : (k : ℕ) (s : Seen) (ds : List Device) → ltb (seenOf s ds .families) (2 ^ k) ≡ ltb (s .families) (2 ^ k) && familiesBelow (2 ^ k) (families ds)
 unfolding seenOf familiesBelow
-below-of k s [] = sym (and-true (ltb (s .highest) k))
+below-of k s [] = sym (and-true (ltb (s .families) (2 ^ k)))
 below-of k s (d ∷ ds) =
     below-of k (seenWith s d) ds
-    ∙ ap (λ (b : Bool). b && familiesBelow k (families ds)) (greater-small k (s .highest) (d .family) .same)
-    ∙ and-assoc (ltb (s .highest) k) (ltb (d .family) k) (familiesBelow k (families ds))
+    ∙ ap (λ (n : ℕ). ltb n (2 ^ k) && familiesBelow (2 ^ k) (families ds)) (families-with s d)
+    ∙ ap (λ (b : Bool). b && familiesBelow (2 ^ k) (families ds)) (or-small k (s .families) (d .family) .same)
+    ∙ and-assoc (ltb (s .families) (2 ^ k)) (ltb (d .family) (2 ^ k)) (familiesBelow (2 ^ k) (families ds))
 
-pub seen-below : (k : ℕ) (ds : List Device) → ltb (seenOf noSeen ds .highest) (k + 1) ≡ familiesBelow (k + 1) (families ds)
-seen-below k ds = below-of (k + 1) noSeen ds ∙ ap (λ (b : Bool). b && familiesBelow (k + 1) (families ds)) (lt-ltb 0 (k + 1) (omega arith))
+-- all are known, and all are of the old family
+pub seen-known : (ds : List Device) → ltb (seenOf noSeen ds .families) 2 ≡ familiesBelow 2 (families ds)
+seen-known ds = below-of 1 noSeen ds
+
+pub seen-old : (ds : List Device) → ltb (seenOf noSeen ds .families) 1 ≡ familiesBelow 1 (families ds)
+seen-old ds = below-of 0 noSeen ds

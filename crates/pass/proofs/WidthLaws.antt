@@ -1,12 +1,17 @@
 -- The widths of a chain's records of the old family tell whether each is sound.
 --     all-start, all-more      the records one by one
+--     or-small, or-byte, greater-small, cross       two numbers together pass a test where each does
 --     fit-more                 one record of the old family more, whose bytes are bytes
+--     old-of, fit-old          all records: whether they are of the old family, and then whether they are sound
 -- Assumes nothing.
-use Rattle.ground.proofs.Names.{ℕ, _+_, _/_, _%_, _^_, _<_, add-one, decLt, arith, Bool, true, false, _&&_, and-assoc, List, [], _∷_, _++_, _≡_, refl, sym, ap, ap₂, _∙_, bitOr, or-lt, or-add-and, and-le-l, and-le-r, or-shr, or-mod, ltb, length, getD, take, take-suc, lt-ltb, le-ltb}
+use Rattle.ground.proofs.Names.{ℕ, _+_, _/_, _%_, _^_, _<_, add-one, decLt, arith, Bool, true, false, _&&_, and-assoc, List, [], _∷_, _++_, _≡_, refl, sym, ap, ap₂, _∙_, bitOr, or-lt, or-add-and, and-le-l, and-le-r, or-shr, or-mod, ltb, length, getD, take, take-suc, lt-ltb, le-ltb, ltb-true, eq-eqb, and-left, and-right}
+use mathlib.Core.Bool.{and-true}
 use Rattle.device.specs.PowerUp.{powerUp}
 use Rattle.device.specs.Sound.{soundOf}
+use Rattle.device.specs.Families.{families, soundRecord}
 use Rattle.device.specs.declared.Device.{Device}
-use Rattle.pass.specs.Widths.{greater, firstBytes, lastBytes, endBytes, noWidths, widthsWith, widthsOf, fit, Bytes, AllBytes}
+use Rattle.calls.specs.CallRefusals.{familiesBelow, allSound}
+use Rattle.pass.specs.Widths.{greater, firstBytes, lastBytes, endBytes, noWidths, widthsWith, widthsOf, fit, allOld, Bytes, AllBytes}
 use Rattle.pass.specs.declared.Widths.{Widths}
 
 -- ---- the records one by one
@@ -40,7 +45,7 @@ pub record Two (p a b : Bool) : Type 0 where
   pub same : p ≡ a && b
 
 -- two of them, crosswise
-cross : {p x a b c d : Bool} → Two p a b → Two x c d → Two (p && x) (a && c) (b && d)
+pub cross : {p x a b c d : Bool} → Two p a b → Two x c d → Two (p && x) (a && c) (b && d)
 cross {a = a} {b = b} {c = c} {d = d} e f = record { same = ap₂ _&&_ (e .same) (f .same) ∙ go a b c }
   where
     go : (a b c : Bool) → (a && b) && (c && d) ≡ (a && c) && (b && d)
@@ -59,7 +64,7 @@ or-small k a b = record { same = go (decLt a (2 ^ k)) (decLt b (2 ^ k)) }
     go (no p) r = rw (le-ltb a (2 ^ k) (omega (arith, p)), le-ltb (bitOr a b) (2 ^ k) (omega (arith, p, or-add-and a b, and-le-r a b)))
 
 -- the same of the byte at bit j, which is v in the second number
-or-byte : (j k a b v : ℕ) → b / 2 ^ j % 2 ^ 8 ≡ v → Two (ltb (bitOr a b / 2 ^ j % 2 ^ 8) (2 ^ k)) (ltb (a / 2 ^ j % 2 ^ 8) (2 ^ k)) (ltb v (2 ^ k))
+pub or-byte : (j k a b v : ℕ) → b / 2 ^ j % 2 ^ 8 ≡ v → Two (ltb (bitOr a b / 2 ^ j % 2 ^ 8) (2 ^ k)) (ltb (a / 2 ^ j % 2 ^ 8) (2 ^ k)) (ltb v (2 ^ k))
 or-byte j k a b v e =
     record {
       same = ap (λ (u : ℕ). ltb (u % 2 ^ 8) (2 ^ k)) (or-shr a b j)
@@ -102,11 +107,11 @@ module _ (w : Widths) (d : Device) (y : Bytes d) where
   lasts : (lastBytes d / 1 % 256 ≡ d .registers .config .b) × (lastBytes d / 256 % 256 ≡ d .registers .config .s)
   lasts = omega (arith, y)
 
-  mark-is : endBytes d / 1 % 256 ≡ d .«answer_mark»
-  mark-is = omega (arith, y .mark, y .command)
+  ends : (endBytes d / 256 % 256 ≡ d .«answer_mark») × (endBytes d / 65536 % 256 ≡ d .command) × (endBytes d / 16777216 % 256 ≡ d .family)
+  ends = omega (arith, y .fitted, y .mark, y .command, y .family)
 
-  command-is : endBytes d / 256 % 256 ≡ d .command
-  command-is = omega (arith, y .mark, y .command)
+  old-more : allOld (widthsWith w d) ≡ allOld w && ltb (d .family) 1
+  old-more = end-byte 24 0 (d .family) (ends .2) .same
 
   pub fit-more : fit (widthsWith w d) ≡ fit w && soundOf d
   fit-more =
@@ -118,4 +123,28 @@ module _ (w : Widths) (d : Device) (y : Bytes d) where
       let pins = or-small 5 (w .pins) (d .registers .pins) in
       let blink = greater-small 4000000 (w .blink) (d .registers .blink) in
       let registers = cross (cross (cross (cross controls config) keys) pins) blink in
-      cross (cross registers (end-byte 0 1 (d .«answer_mark») mark-is)) (end-byte 8 7 (d .command) command-is) .same
+      cross (cross registers (end-byte 8 1 (d .«answer_mark») (ends .0))) (end-byte 16 7 (d .command) (ends .1)) .same
+
+-- ---- all records
+pub old-of : (w : Widths) (ds : List Device) → AllBytes ds → allOld (widthsOf w ds) ≡ allOld w && familiesBelow 1 (families ds)
+unfolding widthsOf familiesBelow AllBytes
+old-of w [] y = sym (and-true (allOld w))
+old-of w (d ∷ ds) y =
+    old-of (widthsWith w d) ds (y .1)
+    ∙ ap (λ (b : Bool). b && familiesBelow 1 (families ds)) (old-more w d (y .0))
+    ∙ and-assoc (allOld w) (ltb (d .family) 1) (familiesBelow 1 (families ds))
+
+-- a record of the old family
+sound-old : (d : Device) → ltb (d .family) 1 ≡ true → soundRecord d ≡ soundOf d
+unfolding soundRecord
+sound-old d o = let z : d .family ≡ 0 = omega (arith, ltb-true (d .family) 1 o) in rw (eq-eqb (d .family) 0 z)
+
+-- where all are, the widths tell whether each is sound
+pub fit-old : (w : Widths) (ds : List Device) → AllBytes ds → familiesBelow 1 (families ds) ≡ true → fit (widthsOf w ds) ≡ fit w && allSound ds
+unfolding widthsOf familiesBelow allSound AllBytes
+fit-old w [] y o = sym (and-true (fit w))
+fit-old w (d ∷ ds) y o =
+    let a = and-left (ltb (d .family) 1) (familiesBelow 1 (families ds)) o in
+    fit-old (widthsWith w d) ds (y .1) (and-right (ltb (d .family) 1) (familiesBelow 1 (families ds)) o)
+    ∙ ap (λ (b : Bool). b && allSound ds) (fit-more w d (y .0) ∙ ap (λ (b : Bool). fit w && b) (sym (sound-old d a)))
+    ∙ and-assoc (fit w) (soundRecord d) (allSound ds)

@@ -10,8 +10,7 @@ use Rattle.refusals.specs.Refusals.{chainRefusal, driverRefusal, soundRefusal, 
 use Rattle.device.specs.Families.{families}
 use Rattle.device.specs.declared.Device.{Device}
 use Rattle.calls.specs.CallRefusals.{familyAt, familiesBelow, allSound}
-use Rattle.pass.specs.Own.{argumentAt, lackAt}
-use Rattle.pass.specs.declared.Own.{Own}
+use Rattle.pass.specs.Own.{argumentAt, lackAt, rowLackAt}
 
 -- the number of a call that names a driver, by these alone
 abbrev pub byArguments : ℕ → ℕ → ℕ
@@ -37,15 +36,23 @@ inRoom n w = if (leb n w) n 0
 abbrev pub found : ℕ → Bool → Bool → ℕ
 found first sound known = if (eqb first 0) (firstOf (soundRefusal sound ∷ familyRefusal known ∷ [])) first
 
--- of a call that names a driver of family f; own is what the call is tested by
-abbrev pub foundNamed : ℕ → Bool → Bool → Own → ℕ → ℕ
-foundNamed first sound known own f = if (eqb first 0) (firstOf (argumentAt own f ∷ soundRefusal sound ∷ familyRefusal known ∷ lackAt own f ∷ [])) first
+-- of a call whose records are all of the old family; own is what the call is tested by
+abbrev pub foundOld : ℕ → Bool → ℕ → ℕ
+foundOld first sound own = if (eqb first 0) (firstOf (argumentAt own 0 ∷ soundRefusal sound ∷ lackAt own 0 ∷ [])) first
+
+-- of a call to a driver of family f, by the records alone: whether they are sound, of known families, and of the old one
+abbrev pub foundBy : Bool → Bool → Bool → ℕ → ℕ → ℕ
+foundBy sound known old own f = firstOf (argumentAt own f ∷ soundRefusal sound ∷ familyRefusal known ∷ lackAt own f ∷ rowLackAt own old ∷ [])
+
+-- the same of a chain
+abbrev pub recordsRefusal : List Device → ℕ → ℕ → ℕ
+recordsRefusal ds f own = foundBy (allSound ds) (familiesBelow 2 (families ds)) (familiesBelow 1 (families ds)) own f
 
 -- the number of a call on a chain that names a driver
-abbrev pub callRefusal : List Device → ℕ → Own → ℕ
+abbrev pub callRefusal : List Device → ℕ → ℕ → ℕ
 callRefusal ds driver own =
     firstOf (chainRefusal (length ds) ∷ driverRefusal (length ds) driver ∷ argumentAt own (familyAt (families ds) driver) ∷ soundRefusal (allSound ds)
-    ∷ familyRefusal (familiesBelow 2 (families ds)) ∷ lackAt own (familyAt (families ds) driver) ∷ [])
+    ∷ familyRefusal (familiesBelow 2 (families ds)) ∷ lackAt own (familyAt (families ds) driver) ∷ rowLackAt own (familiesBelow 1 (families ds)) ∷ [])
 
 -- of one that asks the whole row, which no MAX6957 may be in
 abbrev pub rowRefusal : List Device → ℕ

@@ -14,6 +14,10 @@ abbrev pub eightBytes : ℕ → ℕ → ℕ → ℕ → ℕ → ℕ → ℕ → 
 eightBytes a b c d e f g h =
     a + b * 256 + c * 65536 + d * 16777216 + e * 4294967296 + f * 1099511627776 + g * 281474976710656 + h * 72057594037927936
 
+-- four bytes in a row, the first lowest
+abbrev pub fourBytes : ℕ → ℕ → ℕ → ℕ → ℕ
+fourBytes a b c d = a + b * 256 + c * 65536 + d * 16777216
+
 -- two bytes in a row, the first lowest
 abbrev pub twoBytes : ℕ → ℕ → ℕ
 twoBytes a b = a + b * 256
@@ -32,13 +36,13 @@ firstBytes x =
 abbrev pub lastBytes : Device → ℕ
 lastBytes x = twoBytes (x .registers .config .b) (x .registers .config .s)
 
--- and those that are the answer mark and the command address
+-- and those that are the fitted byte, the answer mark, the command address and the family
 abbrev pub endBytes : Device → ℕ
-endBytes x = twoBytes (x .«answer_mark») (x .command)
+endBytes x = fourBytes (x .fitted) (x .«answer_mark») (x .command) (x .family)
 
 -- of no record
 abbrev pub noWidths : Widths
-noWidths = record { first = 0; last = 0; pins = 0; blink = 0; interrupt = 0; ends = 0; families = 0 }
+noWidths = record { first = 0; last = 0; pins = 0; blink = 0; interrupt = 0; ends = 0 }
 
 -- of one record more: its fields' bits over those that are there, and the greater blink count
 abbrev pub widthsWith : Widths → Device → Widths
@@ -50,7 +54,6 @@ widthsWith w x =
       blink = greater (w .blink) (x .registers .blink);
       interrupt = bitOr (w .interrupt) (x .registers .keys .interrupt);
       ends = bitOr (w .ends) (endBytes x);
-      families = bitOr (w .families) (x .family);
     }
 
 -- of records, one after the other
@@ -66,8 +69,12 @@ fit w =
     && ltb (w .interrupt) 2
     && ltb (w .pins) 32
     && ltb (w .blink) 4000000
-    && ltb (w .ends / 1 % 256) 2
-    && ltb (w .ends / 256 % 256) 128
+    && ltb (w .ends / 256 % 256) 2
+    && ltb (w .ends / 65536 % 256) 128
+
+-- every family is the old one
+abbrev pub allOld : Widths → Bool
+allOld w = ltb (w .ends / 16777216 % 256) 1
 
 -- a record whose bytes are bytes
 pub record Bytes (d : Device) : Type 0 where
@@ -81,8 +88,18 @@ pub record Bytes (d : Device) : Type 0 where
   pub e : d .registers .config .e < 256
   pub b : d .registers .config .b < 256
   pub s : d .registers .config .s < 256
+  pub fitted : d .fitted < 256
   pub mark : d .«answer_mark» < 256
   pub command : d .command < 256
+  pub family : d .family < 256
+  pub port-global : d .ports .global < 256
+  pub port-test : d .ports .test < 256
+  pub port-m : d .ports .config .m < 256
+  pub port-i : d .ports .config .i < 256
+  pub port-s : d .ports .config .s < 256
+  pub mask : d .ports .transition .mask < 256
+  pub snapshot : d .ports .transition .snapshot < 256
+  pub detecting : d .ports .transition .detecting < 256
 
 -- records whose bytes are
 unfoldable pub AllBytes : List Device → Type 0

@@ -1,15 +1,14 @@
 // A call's number by value: by its arguments, and by a pass over the records of a chain.
 ghost use mathlib.Core.Path.{_≡_};
 ghost use lib.Dec.{eqb, ltb};
-ghost use Prim.Native.Nat.{_+_};
-ghost use mathlib.Core.List.{[], _∷_};
+ghost use Prim.Native.Nat.{_<_};
 ghost use Rattle.ground.specs.Choice.{if};
-ghost use Rattle.refusals.specs.Refusals.{chainRefusal, driverRefusal, soundRefusal, familyRefusal, firstOf};
+ghost use Rattle.refusals.specs.Refusals.{chainRefusal, driverRefusal, soundRefusal, familyRefusal};
 ghost use Rattle.calls.specs.Calls.{scan, levels as pinLevels, clocks as masterClocks, plane, segments, brightness, shown, interrupt, answerMark, lookBack, ports};
-ghost use Rattle.pass.specs.Widths.{eightBytes, twoBytes, greater, noWidths, widthsWith, fit};
-ghost use Rattle.pass.specs.Own.{argumentAt, lackAt, displayOwn, bothOwn, stepOwn, questionOwn};
-ghost use Rattle.pass.specs.Seen.{noSeen, seenWith, passedWith, seenFit, again, soundAgain, knownAgain, namedAgain};
-ghost use Rattle.pass.specs.Found.{byArguments, accessByArguments, toPass, toPassIn, inRoom, found, foundNamed};
+ghost use Rattle.pass.specs.Widths.{eightBytes, fourBytes, twoBytes, greater, noWidths, widthsWith, fit, allOld};
+ghost use Rattle.pass.specs.Own.{argumentAt, lackAt, rowLackAt, displayOwn, rowOwn, stepOwn, questionOwn};
+ghost use Rattle.pass.specs.Seen.{noSeen, seenWith, seenFit};
+ghost use Rattle.pass.specs.Found.{byArguments, accessByArguments, toPass, toPassIn, inRoom, found, foundOld, foundBy};
 use device::Device;
 
 // What the records passed so far tell of soundness: the bits of their fields, one over the other.
@@ -22,10 +21,8 @@ pub struct Widths {
     // The greatest blink count.
     pub blink: u32,
     pub interrupt: u8,
-    // A byte each: the answer mark and the command address.
-    pub ends: u16,
-    // The bits of the families.
-    pub families: u8,
+    // A byte each: the fitted byte, the answer mark, the command address and the family.
+    pub ends: u32,
 }
 
 // Eight bytes in a row, the first lowest.
@@ -40,6 +37,13 @@ fn eight_bytes(a: u8, b: u8, c: u8, d: u8, e: u8, f: u8, g: u8, h: u8) -> u64
         + f as u64 * 1099511627776
         + g as u64 * 281474976710656
         + h as u64 * 72057594037927936
+}
+
+// Four bytes in a row, the first lowest.
+fn four_bytes(a: u8, b: u8, c: u8, d: u8) -> u32
+    ensures { λ r. ⌜ r ≡ fourBytes a b c d ⌝ }
+{
+    a as u32 + b as u32 * 256 + c as u32 * 65536 + d as u32 * 16777216
 }
 
 // Two bytes in a row, the first lowest.
@@ -68,7 +72,6 @@ impl Widths {
             blink: 0,
             interrupt: 0,
             ends: 0,
-            families: 0,
         }
     }
 
@@ -96,12 +99,11 @@ impl Widths {
             pins: self.pins | x.pins,
             blink: greater(self.blink, x.blink),
             interrupt: self.interrupt | k.interrupt,
-            ends: self.ends | two_bytes(d.answer_mark, d.command),
-            families: self.families | d.family,
+            ends: self.ends | four_bytes(d.fitted, d.answer_mark, d.command, d.family),
         }
     }
 
-    // Whether every record was sound: no field has a bit too high, and no blink count is.
+    // Whether every record, taken as one of the old family, was sound: no field has a bit too high, and no blink count is.
     pub fn fit(self) -> bool
         ensures { λ r. ⌜ r ≡ fit self ⌝ }
     {
@@ -118,35 +120,30 @@ impl Widths {
             & (self.interrupt < 2)
             & (self.pins < 32)
             & (self.blink < 4000000);
-        registers & (self.ends / 1 % 256 < 2) & (self.ends / 256 % 256 < 128)
+        registers & (self.ends / 256 % 256 < 2) & (self.ends / 65536 % 256 < 128)
+    }
+
+    // Whether every record was of the old family.
+    pub fn old(self) -> bool
+        ensures { λ r. ⌜ r ≡ allOld self ⌝ }
+    {
+        self.ends / 16777216 % 256 < 1
     }
 }
 
-// What the records passed so far tell: of soundness, each by its own family, and of their families.
+// What the records passed so far tell, each by its own family.
 pub struct Seen {
-    // Whether all were sound.
+    // Whether all but the MAX6957 were sound.
     pub sound: bool,
-    // The highest family number.
-    pub highest: u32,
-    // The family of the driver that the call names, 0 before it is passed.
-    pub named: u8,
-}
-
-// Whether record i, from 0, is that of a driver.
-fn is_at(i: usize, driver: usize) -> bool
-    ensures { λ r. ⌜ r ≡ eqb (i + 1) driver ⌝ }
-{
-    if i < driver {
-        return driver - i == 1;
-    }
-    false
-}
-
-// The family of the driver that a call names, once record i is passed.
-fn named_at(old: u8, family: u8, i: usize, driver: usize) -> u8
-    ensures { λ r. ⌜ r ≡ if (eqb (i + 1) driver) family old ⌝ }
-{
-    if is_at(i, driver) { family } else { old }
+    // Of the MAX6957 the bits of their fields, one over the other.
+    pub stored: u32,
+    pub pins: u32,
+    // A byte each, in the record's order: global, test, m, i, s, mask, snapshot, detecting.
+    pub first: u64,
+    pub interrupt: u8,
+    pub mark: u8,
+    // The bits of all families.
+    pub families: u8,
 }
 
 impl Seen {
@@ -156,8 +153,12 @@ impl Seen {
     {
         Seen {
             sound: true,
-            highest: 0,
-            named: 0,
+            stored: 0,
+            pins: 0,
+            first: 0,
+            interrupt: 0,
+            mark: 0,
+            families: 0,
         }
     }
 
@@ -165,92 +166,104 @@ impl Seen {
     pub fn with(self, d: Device) -> Seen
         ensures { λ r. ⌜ r ≡ seenWith self d ⌝ }
     {
-        let sound = self.sound & d.sound();
-        let highest = greater(self.highest, d.family as u32);
+        let x = d.ports;
+        let f = x.config;
+        let t = x.transition;
+        if d.family == 1 {
+            let first = eight_bytes(
+                x.global,
+                x.test,
+                f.m,
+                f.i,
+                f.s,
+                t.mask,
+                t.snapshot,
+                t.detecting,
+            );
+            return Seen {
+                sound: self.sound,
+                stored: self.stored | x.stored,
+                pins: self.pins | x.pins,
+                first: self.first | first,
+                interrupt: self.interrupt | t.interrupt,
+                mark: self.mark | d.answer_mark,
+                families: self.families | 1,
+            };
+        }
         Seen {
-            sound: sound,
-            highest: highest,
-            named: self.named,
+            sound: self.sound & d.sound(),
+            stored: self.stored,
+            pins: self.pins,
+            first: self.first,
+            interrupt: self.interrupt,
+            mark: self.mark,
+            families: self.families | d.family,
         }
     }
 
-    // Of record i more, where the call names a driver.
-    pub fn passed(self, d: Device, i: usize, driver: usize) -> Seen
-        ensures { λ r. ⌜ r ≡ passedWith self d i driver ⌝ }
+    // Whether every record was sound.
+    pub fn fit(self) -> bool
+        ensures { λ r. ⌜ r ≡ seenFit self ⌝ }
     {
-        let next = self.with(d);
-        let named = named_at(self.named, d.family, i, driver);
-        Seen {
-            sound: next.sound,
-            highest: next.highest,
-            named: named,
-        }
+        let levels = (self.stored < 268435456) & (self.pins < 268435456);
+        let controls = levels & (self.first / 1 % 256 < 16) & (self.first / 256 % 256 < 2);
+        let config = (self.first / 65536 % 256 < 2)
+            & (self.first / 16777216 % 256 < 2)
+            & (self.first / 4294967296 % 256 < 2);
+        let transition = (self.first / 1099511627776 % 256 < 128)
+            & (self.first / 281474976710656 % 256 < 128)
+            & (self.first / 72057594037927936 % 256 < 2)
+            & (self.interrupt < 2);
+        let ports = controls & config & transition & (self.mark < 2);
+        self.sound & ports
     }
 }
 
-// What a call that names a driver is tested by beside the records, by the driver's family.
-pub struct Own {
-    // 6 where its arguments are refused: of the old family, of a MAX6957, and of an unknown one.
-    pub max6954: u8,
-    pub max6957: u8,
-    pub unknown: u8,
-    // 14 where the old family, or a MAX6957, lacks the call.
-    pub lacks6954: u8,
-    pub lacks6957: u8,
+// What a call is tested by beside the records is one number of six hexadecimal digits, lowest first:
+// 6 where its arguments are refused, of a driver of the old family, of a MAX6957 and of an unknown family;
+// 14 where the old family, where a MAX6957 lacks it; 14 where it is lacked if any driver of the row is a MAX6957.
+
+// 6, by the family of the driver.
+fn argument(own: u32, family: u8) -> u8
+    ensures { λ r. ⌜ r ≡ argumentAt own family ⌝ }
+{
+    if family == 0 {
+        return (own % 16) as u8;
+    }
+    if family == 1 {
+        return (own / 16 % 16) as u8;
+    }
+    (own / 256 % 16) as u8
 }
 
-impl Own {
-    // 6, by the family of the driver.
-    fn argument(self, family: u8) -> u8
-        ensures { λ r. ⌜ r ≡ argumentAt self family ⌝ }
-    {
-        if family == 0 {
-            return self.max6954;
-        }
-        if family == 1 {
-            return self.max6957;
-        }
-        self.unknown
+// 14, by the same.
+fn lack(own: u32, family: u8) -> u8
+    ensures { λ r. ⌜ r ≡ lackAt own family ⌝ }
+{
+    if family == 0 {
+        return (own / 4096 % 16) as u8;
     }
+    if family == 1 {
+        return (own / 65536 % 16) as u8;
+    }
+    0
+}
 
-    // 14, by the same.
-    fn lack(self, family: u8) -> u8
-        ensures { λ r. ⌜ r ≡ lackAt self family ⌝ }
-    {
-        if family == 0 {
-            return self.lacks6954;
-        }
-        if family == 1 {
-            return self.lacks6957;
-        }
-        0
+// 14, by whether all drivers of the row are of the old family.
+fn row_lack(own: u32, old: bool) -> u8
+    ensures { λ r. ⌜ r ≡ rowLackAt own old ⌝ }
+{
+    if old {
+        return 0;
     }
+    (own / 1048576 % 16) as u8
+}
 
-    // Of a call that a MAX6957 lacks, whose arguments give k.
-    fn display(k: u8) -> Own
-        ensures { λ r. ⌜ r ≡ displayOwn k ⌝ }
-    {
-        Own {
-            max6954: k,
-            max6957: k,
-            unknown: k,
-            lacks6954: 0,
-            lacks6957: 14,
-        }
-    }
-
-    // Of a call that both families have.
-    fn both() -> Own
-        ensures { λ r. ⌜ r ≡ bothOwn ⌝ }
-    {
-        Own {
-            max6954: 0,
-            max6957: 0,
-            unknown: 0,
-            lacks6954: 0,
-            lacks6957: 0,
-        }
-    }
+// Of a call that a MAX6957 lacks, whose arguments give k.
+fn display(k: u8) -> u32
+    ensures { λ r. ⌜ r ≡ displayOwn k ⌝ }
+{
+    if k == 0 { 0xE0000 } else { 0xE0666 }
 }
 
 // The first of two numbers that isn't 0.
@@ -325,178 +338,135 @@ pub fn in_room(n: usize, w: usize) -> usize
 
 // The number of an access once the records are passed.
 pub fn found(first: u8, seen: Seen) -> u8
-    ensures { λ r. ⌜ r ≡ found first (seenFit seen) (ltb (seen .highest) 2) ⌝ }
+    ensures { λ r. ⌜ r ≡ found first (seenFit seen) (ltb (seen .families) 2) ⌝ }
 {
     if first != 0 {
         return first;
     }
-    first_of(sound_refusal(seen.sound), family_refusal(seen.highest < 2))
+    first_of(sound_refusal(seen.fit()), family_refusal(seen.families < 2))
 }
 
-// How many of the m records passed are passed again, by their families: none where all are of the old one.
-pub fn again(m: usize, widths: Widths) -> usize
-    ensures { λ r. ⌜ r ≡ again m widths ⌝ }
-{
-    if widths.families < 1 { 0 } else { m }
-}
-
-// The number of an access whose records are passed twice where one isn't of the old family.
-pub fn found_again(first: u8, widths: Widths, seen: Seen) -> u8
-    ensures { λ r. ⌜ r ≡ found first (soundAgain widths seen) (knownAgain widths seen) ⌝ }
+// The number of a call whose records, once passed, are all of the old family.
+pub fn found_old(first: u8, widths: Widths, own: u32) -> u8
+    ensures { λ r. ⌜ r ≡ foundOld first (fit widths) own ⌝ }
 {
     if first != 0 {
         return first;
     }
-    if widths.families < 1 {
-        return sound_refusal(widths.fit());
-    }
-    first_of(sound_refusal(seen.sound), family_refusal(seen.highest < 2))
+    let later = first_of(sound_refusal(widths.fit()), (own / 4096 % 16) as u8);
+    first_of((own % 16) as u8, later)
 }
 
-// And of a call that asks the whole row, which no MAX6957 may be in; the records are passed likewise.
-pub fn found_old(first: u8, widths: Widths, seen: Seen) -> u8
-    ensures { λ r. ⌜ r ≡ found first (soundAgain widths seen) (ltb (widths .families) 1) ⌝ }
+// The number of a call to a driver of a family, by the records alone.
+pub fn found_by(seen: Seen, family: u8, own: u32) -> u8
+    ensures { λ r. ⌜ r ≡ foundBy (seenFit seen) (ltb (seen .families) 2) (ltb (seen .families) 1) own family ⌝ }
 {
-    if first != 0 {
-        return first;
-    }
-    if widths.families < 1 {
-        return sound_refusal(widths.fit());
-    }
-    first_of(sound_refusal(seen.sound), 14)
-}
-
-// And of a call that names a driver.
-pub fn found_named(first: u8, seen: Seen, own: Own) -> u8
-    ensures { λ r. ⌜ r ≡ foundNamed first (seenFit seen) (ltb (seen .highest) 2) own (seen .named) ⌝ }
-{
-    if first != 0 {
-        return first;
-    }
-    let last = first_of(family_refusal(seen.highest < 2), own.lack(seen.named));
-    let later = first_of(sound_refusal(seen.sound), last);
-    first_of(own.argument(seen.named), later)
-}
-
-// The same where the records are passed again.
-pub fn found_named_again(first: u8, widths: Widths, seen: Seen, own: Own) -> u8
-    ensures { λ r. ⌜ r ≡ foundNamed first (soundAgain widths seen) (knownAgain widths seen) own (namedAgain widths seen) ⌝ }
-{
-    if first != 0 {
-        return first;
-    }
-    if widths.families < 1 {
-        let later = first_of(sound_refusal(widths.fit()), own.lacks6954);
-        return first_of(own.max6954, later);
-    }
-    found_named(first, seen, own)
+    let lacked = first_of(lack(own, family), row_lack(own, seen.families < 1));
+    let last = first_of(family_refusal(seen.families < 2), lacked);
+    let later = first_of(sound_refusal(seen.fit()), last);
+    first_of(argument(own, family), later)
 }
 
 // Keys that a scan gives: none is refused.
-pub fn scan_refusal(a: u8, b: u8, c: u8, d: u8) -> Own
+pub fn scan_refusal(a: u8, b: u8, c: u8, d: u8) -> u32
     ensures { λ r. ⌜ r ≡ stepOwn (scan a b c d) ⌝ }
 {
-    Own::display(0)
+    display(0)
 }
 
 // 6 where a test refuses.
-fn six_where(refused: bool) -> u8
-    ensures { λ r. ⌜ r ≡ if refused 6 0 ⌝ }
+fn six_where(refused: bool) -> u32
+    ensures { λ r. ⌜ (r ≡ if refused 6 0) × (r < 7) ⌝ }
 {
     if refused { 6 } else { 0 }
 }
 
 // Pin levels: 6 above 31, or of a MAX6957 above 28 bits.
-pub fn levels_refusal(levels: u32) -> Own
+pub fn levels_refusal(levels: u32) -> u32
     ensures { λ r. ⌜ r ≡ stepOwn (pinLevels levels) ⌝ }
 {
-    Own {
-        max6954: six_where(31 < levels),
-        max6957: six_where(268435455 < levels),
-        unknown: 0,
-        lacks6954: 0,
-        lacks6957: 0,
-    }
+    six_where(31 < levels) + six_where(268435455 < levels) * 16
 }
 
 // Clocks: none are refused.
-pub fn clocks_refusal(clocks: u32) -> Own
+pub fn clocks_refusal(clocks: u32) -> u32
     ensures { λ r. ⌜ r ≡ stepOwn (masterClocks clocks) ⌝ }
 {
-    Own::display(0)
+    display(0)
 }
 
 // 6: a lent plane not 16 long, a digit above 15, or a last digit below the first.
-pub fn plane_refusal<'a>(p0: &'a [u8], p1: &'a [u8], first: usize, last: usize) -> Own
+pub fn plane_refusal<'a>(p0: &'a [u8], p1: &'a [u8], first: usize, last: usize) -> u32
     ensures { λ r. ⌜ r ≡ questionOwn (plane (now (p0 .entry)) (now (p1 .entry)) first last) ⌝ }
 {
-    Own::display(blink::plane_refusal(p0, p1, first, last))
+    display(blink::plane_refusal(p0, p1, first, last))
 }
 
 // The same, of planes lent apart.
-pub fn part_refusal(p0: &[u8], p1: &[u8], first: usize, last: usize) -> Own
+pub fn part_refusal(p0: &[u8], p1: &[u8], first: usize, last: usize) -> u32
     ensures { λ r. ⌜ r ≡ questionOwn (plane (now (p0 .entry)) (now (p1 .entry)) first last) ⌝ }
 {
-    Own::display(blink::plane_refusal(p0, p1, first, last))
+    display(blink::plane_refusal(p0, p1, first, last))
 }
 
 // 6: a cathode above 7, or a glyph table not 128 long.
-pub fn segments_refusal(cathode: usize, font14: &[u16], font16: &[u16]) -> Own
+pub fn segments_refusal(cathode: usize, font14: &[u16], font16: &[u16]) -> u32
     ensures { λ r. ⌜ r ≡ questionOwn (segments cathode (now (font14 .entry)) (now (font16 .entry))) ⌝ }
 {
-    Own::display(shown_pins::segments_refusal(cathode, font14, font16))
+    display(shown_pins::segments_refusal(cathode, font14, font16))
 }
 
 // 6: a digit above 15.
-pub fn brightness_refusal(digit: usize) -> Own
+pub fn brightness_refusal(digit: usize) -> u32
     ensures { λ r. ⌜ r ≡ questionOwn (brightness digit) ⌝ }
 {
     if digit < 16 {
-        return Own::display(0);
+        return display(0);
     }
-    Own::display(6)
+    display(6)
 }
 
 // The plane shown: every driver but a MAX6957 may be asked for it.
-pub fn shown_refusal() -> Own
+pub fn shown_refusal() -> u32
     ensures { λ r. ⌜ r ≡ questionOwn shown ⌝ }
 {
-    Own::display(0)
+    display(0)
 }
 
 // The interrupt: every driver may.
-pub fn interrupt_refusal() -> Own
+pub fn interrupt_refusal() -> u32
     ensures { λ r. ⌜ r ≡ questionOwn interrupt ⌝ }
 {
-    Own::both()
+    0
 }
 
 // And the answer mark.
-pub fn mark_refusal() -> Own
+pub fn mark_refusal() -> u32
     ensures { λ r. ⌜ r ≡ questionOwn answerMark ⌝ }
 {
-    Own::both()
+    0
 }
 
 // 6: a plane above 1, or a digit above 15.
-pub fn look_back_refusal(plane: usize, digit: usize, words: &[u16]) -> Own
+pub fn look_back_refusal(plane: usize, digit: usize, words: &[u16]) -> u32
     ensures { λ r. ⌜ r ≡ questionOwn (lookBack plane digit (now (words .entry))) ⌝ }
 {
     if (plane < 2) & (digit < 16) {
-        return Own::display(0);
+        return display(0);
     }
-    Own::display(6)
+    display(6)
 }
 
 // What the ports show: the old family lacks it.
-pub fn ports_refusal() -> Own
+pub fn ports_refusal() -> u32
     ensures { λ r. ⌜ r ≡ questionOwn ports ⌝ }
 {
-    Own {
-        max6954: 0,
-        max6957: 0,
-        unknown: 0,
-        lacks6954: 14,
-        lacks6957: 0,
-    }
+    0xE000
+}
+
+// What is asked of the whole row: a MAX6957 anywhere in it lacks it.
+pub fn row_own() -> u32
+    ensures { λ r. ⌜ r ≡ rowOwn ⌝ }
+{
+    0xE00000
 }

@@ -8,7 +8,8 @@ use Rattle.words.specs.declared.Word.{Word}
 use Rattle.words.specs.declared.Word.the-variants.{Write, Read}
 use Rattle.registers.specs.Registers.{written, dataOf, afterRead}
 use Rattle.registers.specs.declared.Registers.{Registers}
-use Rattle.device.specs.Record.{withRegisters, withShift, withMark}
+use Rattle.port_registers.specs.declared.PortRegisters.{PortRegisters}
+use Rattle.device.specs.Record.{withRegisters, withShift, withMark, withPorts}
 use Rattle.device.specs.Taken.{answerWord}
 use Rattle.device.specs.declared.Device.{Device}
 use Rattle.high_words.specs.HighWords.{newMark}
@@ -36,3 +37,7 @@ lowShift x w = shiftBy x w (wordOf w)
 -- the record after it
 abbrev pub lowTaken : Device → ℕ → Device
 lowTaken d w = withMark (withShift (withRegisters d (lowRegisters (d .registers) w)) (lowShift (d .registers) w)) (newMark w)
+
+-- the record of a MAX6957 with its registers, its shift word and its answer mark replaced
+abbrev pub portsReplaced : Device → PortRegisters → ℕ → ℕ → Device
+portsReplaced d x s m = withMark (withShift (withPorts d x) s) m

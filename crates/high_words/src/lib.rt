@@ -3,8 +3,6 @@ ghost use mathlib.Core.Path.{_≡_};
 ghost use Rattle.high_words.specs.HighWords.{isHigh, inPlace, digitOf, newP0, newP1, digitRead, newShift, newMark};
 ghost use Rattle.high_words.specs.LowWords.{isPorts, lowRegisters, lowShift};
 ghost use Rattle.device.specs.Taken.{answerWord};
-ghost use Rattle.device.specs.Families.{portsTaken};
-use device::Device;
 use registers::Registers;
 use words::Word;
 
@@ -114,22 +112,4 @@ pub fn low_shift(old: Registers, word: u16) -> u16
         return answer(word, old.read_data(register));
     }
     word
-}
-
-// The record of a MAX6957 after any word.
-pub fn ports_taken(mut d: Device, word: u16) -> Device
-    ensures { λ r. ⌜ r ≡ portsTaken d word ⌝ }
-{
-    let old = d.ports;
-    let v = old.read_data((word / 256 % 128) as u8);
-    let new = old.taken(word);
-    d.ports = new;
-    if word / 32768 % 2 == 1 {
-        d.shift = answer(word, v);
-        d.answer_mark = 1;
-        return d;
-    }
-    d.shift = word;
-    d.answer_mark = 0;
-    d
 }

@@ -8,3 +8,4 @@ pub mod Parts
 pub mod Records
 pub mod Params
 pub mod Arrays
+pub mod Numbers

@@ -9,7 +9,7 @@ use Rattle.registers.proofs.Registers as G
 use Rattle.registers.proofs.Registers.Laws as G′
 use Rattle.registers.specs.Record.{withPlanes}
 use Rattle.registers.specs.declared.Registers.{Registers}
-use Rattle.device.specs.Record.{withRegisters, withShift, withMark}
+use Rattle.device.specs.Record.{withRegisters, withShift, withMark, withPorts}
 use Rattle.digits.proofs.Planes as Q
 use Rattle.digits.proofs.Planes.Laws as Q′
 use Rattle.device.proofs.Device as D
@@ -18,8 +18,13 @@ use Rattle.pass.proofs.Seen as W
 use Rattle.pass.proofs.Seen.Laws as W′
 use Rattle.pass.proofs.Widths as Y
 use Rattle.pass.proofs.Widths.Laws as Y′
-use Rattle.pass.proofs.Own as O
-use Rattle.pass.proofs.Own.Laws as O′
+use Rattle.port_registers.specs.PortRecord.{withStored, withTransition}
+use Rattle.port_registers.specs.declared.PortRegisters.{PortRegisters}
+use Rattle.port_registers.specs.declared.Transition.{Transition}
+use Rattle.port_registers.proofs.PortRegisters as P
+use Rattle.port_registers.proofs.PortRegisters.Laws as P′
+use Rattle.port_registers.proofs.Transition as T
+use Rattle.port_registers.proofs.Transition.Laws as T′
 use Rattle.lent.proofs.Walk.{Data, num, rec}
 use Rattle.lent.proofs.Elements.{Sized}
 use Rattle.lent.proofs.Places.{same, vals, is-set, unraw}
@@ -58,9 +63,12 @@ seen = rec W.the-type W′.the-laws W′.the-plain W′.the-copy
 abbrev pub widths : Data
 widths = rec Y.the-type Y′.the-laws Y′.the-plain Y′.the-copy
 
--- what a call is tested by beside the records
-abbrev pub ownTests : Data
-ownTests = rec O.the-type O′.the-laws O′.the-plain O′.the-copy
+-- the registers of a MAX6957, and its transition detection
+abbrev pub ports : Data
+ports = rec P.the-type P′.the-laws P′.the-plain P′.the-copy
+
+abbrev pub transition : Data
+transition = rec T.the-type T′.the-laws T′.the-plain T′.the-copy
 
 -- the planes of a record that is a value of its type are rows of sixteen bytes
 pub planes-of : (d : Device) → Is (device .row) d (device .val d ∷ [])
@@ -103,6 +111,26 @@ is-replaced d x s m hx hs hm is =
     let a = LL.owed D.the-type D′.the-laws d (device .val d ∷ []) is in
     LL.owes D.the-type D′.the-laws (withMark (withShift (withRegisters d x) s) m) (hx, ((refl, hs), (a .1 .1 .0, ((refl, hm), a .1 .1 .1 .1))))
 
+-- the same of a MAX6957's registers
+pub ports-of : (d : Device) → Is (device .row) d (device .val d ∷ []) → Is (ports .row) (d .ports) (ports .val (d .ports) ∷ [])
+ports-of d is = LL.owed D.the-type D′.the-laws d (device .val d ∷ []) is .1 .1 .1 .1 .1 .1 .0
+
+pub is-with-ports : (d : Device) (x : PortRegisters) (s m : ℕ) → Is (ports .row) x (ports .val x ∷ []) → s < 2 ^ 16 → m < 2 ^ 8 → Is (device .row) d (device .val d ∷ [])
+    → Is (device .row) (withMark (withShift (withPorts d x) s) m) (device .val (withMark (withShift (withPorts d x) s) m) ∷ [])
+is-with-ports d x s m hx hs hm is =
+    let a = LL.owed D.the-type D′.the-laws d (device .val d ∷ []) is in
+    LL.owes D.the-type D′.the-laws (withMark (withShift (withPorts d x) s) m) (a .0, ((refl, hs), (a .1 .1 .0, ((refl, hm), (a .1 .1 .1 .1 .0, (a .1 .1 .1 .1 .1 .0, (hx, tt)))))))
+
+-- its stored bits, and its registers with others and another transition detection
+pub stored-of : (x : PortRegisters) → Is (ports .row) x (ports .val x ∷ []) → Is (word .row) (x .stored) (word .val (x .stored) ∷ [])
+stored-of x is = (refl, LL.owed P.the-type P′.the-laws x (ports .val x ∷ []) is .0 .1)
+
+pub is-with-stored : (x : PortRegisters) (v : ℕ) (t : Transition) → v < 2 ^ 32 → Is (transition .row) t (transition .val t ∷ []) → Is (ports .row) x (ports .val x ∷ [])
+    → Is (ports .row) (withTransition (withStored x v) t) (ports .val (withTransition (withStored x v) t) ∷ [])
+is-with-stored x v t hv ht is =
+    let a = LL.owed P.the-type P′.the-laws x (ports .val x ∷ []) is .1 in
+    LL.owes P.the-type P′.the-laws (withTransition (withStored x v) t) ((refl, hv), (a .0, (a .1 .0, (a .1 .1 .0, (a .1 .1 .1 .0, (a .1 .1 .1 .1 .0, (a .1 .1 .1 .1 .1 .0, (ht, tt))))))))
+
 -- ---- a record in memory, by the machine values of its fields: y and z are its planes, s its shift word, m its answer mark, a its command address, n its family and r its ports
 abbrev pub Cell : {M : Type 1} (𝓤 : URA M) → Share → ℕ → ℕ → (c f e g w h t a n r y z s m : Val) → Item 𝓤
 Cell 𝓤 q b o c f e g w h t a n r y z s m = ‵ (fat q (raw (device .ty)) b o (vstruct (ofList (vstruct (ofList (c ∷ f ∷ e ∷ g ∷ vstruct (ofList (y ∷ z ∷ [])) ∷ w ∷ h ∷ [])) ∷ s ∷ t ∷ m ∷ a ∷ n ∷ r ∷ []))))
@@ -111,8 +139,12 @@ Cell 𝓤 q b o c f e g w h t a n r y z s m = ‵ (fat q (raw (device .ty)) b o 
 abbrev pub Whole : {M : Type 1} (𝓤 : URA M) → Share → ℕ → ℕ → (r s t m a n p : Val) → Item 𝓤
 Whole 𝓤 q b o r s t m a n p = ‵ (fat q (raw (device .ty)) b o (vstruct (ofList (r ∷ s ∷ t ∷ m ∷ a ∷ n ∷ p ∷ []))))
 
+-- the same, the registers of a MAX6957 by the machine values of their fields: v its stored bits and u its transition detection
+abbrev pub Ports : {M : Type 1} (𝓤 : URA M) → Share → ℕ → ℕ → (r s t m a n v c d e f g h u : Val) → Item 𝓤
+Ports 𝓤 q b o r s t m a n v c d e f g h u = Whole 𝓤 q b o r s t m a n (vstruct (ofList (v ∷ c ∷ d ∷ e ∷ f ∷ g ∷ h ∷ u ∷ [])))
+
 module _ {M : Type 1} {𝓤 : URA M} {H : Heap 𝓤} {A : Atoms 𝓤} {K : Type 0} {W : Given 𝓤 H A} {b o : ℕ} where
-  -- where the four lie
+  -- where the fields lie
   module _ {Γ : List (Item 𝓤)} {E : Env 𝓤 H} where
     pub at-p0 : K → Walks K W Γ E (device .ty, b, o) (field 0 ∷ field 4 ∷ field 0 ∷ []) (tyArray (tyInt w8) 16, b, o + 0 + 36 + 0)
     at-p0 t = fld t refl (fld t refl (fld t refl (stop t)))
@@ -128,6 +160,19 @@ module _ {M : Type 1} {𝓤 : URA M} {H : Heap 𝓤} {A : Atoms 𝓤} {K : Type 
 
     pub at-registers : K → Walks K W Γ E (device .ty, b, o) (field 0 ∷ []) (registers .ty, b, o + 0)
     at-registers t = fld t refl (stop t)
+
+    pub at-ports : K → Walks K W Γ E (device .ty, b, o) (field 6 ∷ []) (ports .ty, b, o + 84)
+    at-ports t = fld t refl (stop t)
+
+    pub at-stored : K → Walks K W Γ E (device .ty, b, o) (field 6 ∷ field 0 ∷ []) (tyInt w32, b, o + 84 + 0)
+    at-stored t = fld t refl (fld t refl (stop t))
+
+    pub at-transition : K → Walks K W Γ E (device .ty, b, o) (field 6 ∷ field 7 ∷ []) (transition .ty, b, o + 84 + 34)
+    at-transition t = fld t refl (fld t refl (stop t))
+
+    -- within a local that holds a MAX6957's registers
+    pub at-own-stored : K → Walks K W Γ E (ports .ty, b, o) (field 0 ∷ []) (tyInt w32, b, o + 0)
+    at-own-stored t = fld t refl (stop t)
 
     pub at-family : K → Walks K W Γ E (device .ty, b, o) (field 5 ∷ []) (tyInt w8, b, o + 81)
     at-family t = fld t refl (stop t)
@@ -156,6 +201,21 @@ module _ {M : Type 1} {𝓤 : URA M} {H : Heap 𝓤} {A : Atoms 𝓤} {K : Type 
 
     pub row-mark : K → Part K W (Whole 𝓤 q b o r s t m a n p) q (tyInt w8) b (o + 79) m (λ u. Whole 𝓤 q b o r s t u a n p)
     row-mark k = sub k 3 refl (whole k)
+
+    pub row-ports : K → Part K W (Whole 𝓤 q b o r s t m a n p) q (ports .ty) b (o + 84) p (λ u. Whole 𝓤 q b o r s t m a n u)
+    row-ports k = unraw k {τ = ports .ty} (sub k 6 refl (whole k))
+
+  -- the stored bits and the transition detection of a MAX6957 in a row
+  module _ {q : Share} {r s t m a n v c d e f g h u : Val} where
+    pub row-stored : K → Part K W (Ports 𝓤 q b o r s t m a n v c d e f g h u) q (tyInt w32) b (o + 84 + 0) v (λ w. Ports 𝓤 q b o r s t m a n w c d e f g h u)
+    row-stored k = sub k 0 refl (sub k 6 refl (whole k))
+
+    pub row-transition : K → Part K W (Ports 𝓤 q b o r s t m a n v c d e f g h u) q (transition .ty) b (o + 84 + 34) u (λ w. Ports 𝓤 q b o r s t m a n v c d e f g h w)
+    row-transition k = unraw k {τ = transition .ty} (sub k 7 refl (sub k 6 refl (whole k)))
+
+  -- the stored bits in a local
+  pub own-stored : K → {q : Share} {v c d e f g h u : Val} → Part K W (‵ (fat q (ports .ty) b o (vstruct (ofList (v ∷ c ∷ d ∷ e ∷ f ∷ g ∷ h ∷ u ∷ []))))) q (tyInt w32) b (o + 0) v (λ w. ‵ (fat q (ports .ty) b o (vstruct (ofList (w ∷ c ∷ d ∷ e ∷ f ∷ g ∷ h ∷ u ∷ [])))))
+  own-stored k = sub k 0 refl (whole k)
 
   -- the shift word of a record in a local
   pub local-shift : K → {q : Share} {r s t m a n p : Val} → Part K W (‵ (fat q (device .ty) b o (vstruct (ofList (r ∷ s ∷ t ∷ m ∷ a ∷ n ∷ p ∷ []))))) q (tyInt w16) b (o + 76) s (λ u. ‵ (fat q (device .ty) b o (vstruct (ofList (r ∷ u ∷ t ∷ m ∷ a ∷ n ∷ p ∷ [])))))

@@ -3,15 +3,41 @@ ghost use mathlib.Core.Path.{_≡_};
 ghost use lib.ListN.{length, take};
 ghost use Rattle.device.specs.Families.{families};
 ghost use Rattle.calls.specs.CallRefusals.{familiesBelow, allSound};
-ghost use Rattle.pass.specs.Found.{toPassIn, inRoom, found, callRefusal, rowRefusal};
+ghost use Rattle.pass.specs.Found.{toPassIn, inRoom, found, recordsRefusal, callRefusal, rowRefusal};
 ghost use Rattle.pass.specs.OneByOne.{wordsTo, takenTo};
 use device::Device;
-use pass::Own;
 use pass::Seen;
 use pass::Widths;
 
-// The number of a call that names a driver; own is what the call is tested by beside the records.
-pub fn call_refusal(chain: &[Device], driver: usize, own: Own) -> u8
+// The number of a call to a driver of a family, by the records alone, each by its own family; own is what the call is tested by beside them.
+fn records_refusal(chain: &[Device], family: u8, own: u32) -> u8
+    ensures { λ r. ⌜ r ≡ recordsRefusal (now (chain .entry)) family own ⌝ }
+{
+    let n = chain.len();
+    let mut s = Seen::new();
+    let mut i = 0;
+    while i < n {
+        s = s.with(chain[i]);
+        i += 1;
+    }
+    pass::found_by(s, family, own)
+}
+
+// The number of a call that names a driver, by each record's own family.
+pub fn each_refusal(chain: &[Device], driver: usize, own: u32) -> u8
+    ensures { λ r. ⌜ r ≡ callRefusal (now (chain .entry)) driver own ⌝ }
+{
+    let first = pass::by_arguments(chain.len(), driver);
+    if first != 0 {
+        return first;
+    }
+    let at = driver - 1;
+    let family = chain[at].family;
+    records_refusal(chain, family, own)
+}
+
+// The same, with a pass that is faster where all drivers are of the old family.
+pub fn call_refusal(chain: &[Device], driver: usize, own: u32) -> u8
     ensures { λ r. ⌜ r ≡ callRefusal (now (chain .entry)) driver own ⌝ }
 {
     let n = chain.len();
@@ -23,37 +49,18 @@ pub fn call_refusal(chain: &[Device], driver: usize, own: Own) -> u8
         w = w.with(chain[i]);
         i += 1;
     }
-    let again = pass::again(m, w);
-    let mut s = Seen::new();
-    let mut k = 0;
-    while k < again {
-        s = s.passed(chain[k], k, driver);
-        k += 1;
+    if w.old() {
+        return pass::found_old(first, w, own);
     }
-    pass::found_named_again(first, w, s, own)
+    each_refusal(chain, driver, own)
 }
 
 // The number of a call that asks the whole row, which no MAX6957 may be in: 1, 7 and 14.
 pub fn row_refusal(chain: &[Device]) -> u8
     ensures { λ r. ⌜ r ≡ rowRefusal (now (chain .entry)) ⌝ }
 {
-    let n = chain.len();
-    let first = pass::chain_refusal(n);
-    let m = pass::to_pass(first, n);
-    let mut w = Widths::new();
-    let mut i = 0;
-    while i < m {
-        w = w.with(chain[i]);
-        i += 1;
-    }
-    let again = pass::again(m, w);
-    let mut s = Seen::new();
-    let mut k = 0;
-    while k < again {
-        s = s.with(chain[k]);
-        k += 1;
-    }
-    pass::found_old(first, w, s)
+    let own = pass::row_own();
+    call_refusal(chain, 1, own)
 }
 
 // The number of an access, where it is first by its arguments; and the shift words, in front of the words lent.
@@ -69,17 +76,14 @@ pub fn shift_words(chain: &[Device], first: u8, words: &mut [u16]) -> u8
         w = w.with(d);
         i += 1;
     }
-    let again = pass::again(m, w);
-    let mut s = Seen::new();
-    let mut k = 0;
-    while k < again {
-        s = s.with(chain[k]);
-        k += 1;
+    if w.old() {
+        return pass::found_old(first, w, 0);
     }
-    pass::found_again(first, w, s)
+    records_refusal(chain, 0, 0)
 }
 
-// Every driver takes its word. Of the old family, two bytes are stored where its address is 0x20 or above, else the registers, and the shift word and the answer mark; of a MAX6957 the whole record.
+// Every driver takes its word, in place: where its address is 0x20 or above, of the old family two bytes are stored, of a MAX6957 its stored bits and its
+// transition detection; else all registers of its family; and the shift word and the answer mark.
 pub fn take_words(chain: &mut [Device], words: &[u16])
     ensures { λ _. ⌜ now (chain .exit) ≡ takenTo (now (chain .entry)) (now (words .entry)) (inRoom (length (now (chain .entry))) (length (now (words .entry)))) ⌝ }
 {
@@ -97,7 +101,17 @@ pub fn take_words(chain: &mut [Device], words: &[u16])
             chain[i].shift = high_words::new_shift(w, p0, p1);
             chain[i].answer_mark = high_words::new_mark(w);
         } else if high_words::is_ports(family) {
-            chain[i] = high_words::ports_taken(chain[i], w);
+            let x = chain[i].ports;
+            if port_high_words::is_high(w) {
+                chain[i].shift = port_high_words::new_shift(w, x);
+                chain[i].ports.stored = port_high_words::new_stored(w, x.stored);
+                chain[i].ports.transition = port_high_words::new_transition(w, x);
+                chain[i].answer_mark = high_words::new_mark(w);
+            } else {
+                chain[i].shift = x.shift_word(w);
+                chain[i].ports = x.taken(w);
+                chain[i].answer_mark = high_words::new_mark(w);
+            }
         } else {
             let old = chain[i].registers;
             chain[i].shift = high_words::low_shift(old, w);

@@ -1,6 +1,7 @@
 -- The number as it is found is the number of the call, and the outcome of a call that names a driver by it.
 --     pass-below, pass-le, pass-in-below, pass-in-le, in-room-below, in-room-le     a record that is passed is one of the chain
 --     call-first, call-records, call-old, row-found       the number found is `callRefusal`, or `rowRefusal`
+--     records-found                                that of the records
 --     access-old, access-mixed                     that of an access
 --     in-range, own-zero                           what a number of 0 tells of the driver and the argument
 --     give-served, give-refused, ask-served, ask-refused       the outcome
@@ -18,9 +19,11 @@ use Rattle.calls.specs.Outcome.{number, after, reply, outcome}
 use Rattle.calls.proofs.Accepted.{each-zero, driver-there}
 use Rattle.pass.specs.Own.{argumentAt, lackAt, rowLackAt, rowOwn, stepOwn, questionOwn}
 use Rattle.pass.specs.Widths.{noWidths, widthsOf, fit, allOld, AllBytes}
-use Rattle.pass.specs.Found.{byArguments, toPass, toPassIn, inRoom, found, foundOld, recordsRefusal, callRefusal, rowRefusal}
+use Rattle.pass.specs.Found.{byArguments, toPass, toPassIn, inRoom, found, foundOld, foundBy, recordsRefusal, callRefusal, rowRefusal}
 use Rattle.pass.proofs.OwnLaws.{step-argument, step-lack, step-row, question-argument, question-lack, question-row, row-argument}
+use Rattle.pass.specs.Seen.{noSeen, seenOf, seenFit}
 use Rattle.pass.proofs.WidthLaws.{old-of, fit-old}
+use Rattle.pass.proofs.SeenLaws.{seen-fit, seen-known, seen-old}
 
 -- ---- a record that is passed is one of the chain
 if-below : (b : Bool) (n i : ℕ) → i < if b n 0 → (b ≡ true) × (i < n)
@@ -89,6 +92,11 @@ pub old-sound : (ds : List Device) (m : ℕ) → AllBytes (take m ds) → allOld
 old-sound ds m y e =
     let o : familiesBelow 1 (families (take m ds)) ≡ true = sym (old-of noWidths (take m ds) y) ∙ e in
     (o, fit-old noWidths (take m ds) y o)
+
+-- by a pass over all records, each by its own family
+pub records-found : (ds : List Device) (f own : ℕ) → AllBytes (take (length ds) ds)
+    → foundBy (seenFit (seenOf noSeen (take (length ds) ds))) (ltb (seenOf noSeen (take (length ds) ds) .families) 2) (ltb (seenOf noSeen (take (length ds) ds) .families) 1) own f ≡ recordsRefusal ds f own
+records-found ds f own y = rw (seen-fit (take (length ds) ds) y, seen-known (take (length ds) ds), seen-old (take (length ds) ds), take-length ds)
 
 module _ (ds : List Device) (driver own : ℕ) where
   abbrev n : ℕ

@@ -4,13 +4,11 @@
 use Prim.Native.Nat.{ℕ}
 use mathlib.Core.Bool.{true}
 use mathlib.Core.Path.{_≡_}
-use Rattle.port_registers.specs.PortRecord.{withStored, withTransition}
 use Rattle.port_registers.specs.PortTaken.{taken, shiftWord}
 use Rattle.port_registers.specs.declared.PortRegisters.{PortRegisters}
-use Rattle.port_high_words.specs.PortHighWords.{isHigh, newStored, newShift, newTransition}
+use Rattle.port_high_words.specs.PortHighWords.{isHigh, newShift, newPorts}
 
 -- by every such word
 pub record HighPorts : Type 0 where
-  pub registers : (x : PortRegisters) (w : ℕ) → isHigh w ≡ true
-      → taken x w ≡ withTransition (withStored x (newStored w (x .stored))) (newTransition w x)
+  pub registers : (x : PortRegisters) (w : ℕ) → isHigh w ≡ true → taken x w ≡ newPorts w x
   pub shift : (x : PortRegisters) (w : ℕ) → isHigh w ≡ true → shiftWord x w ≡ newShift w x

@@ -1,53 +1,43 @@
--- `lent::call_refusal` meets its contract: a walk of its MIR, by hand. A turn of a loop copies one record out of the chain and calls `with` of the widths first, then `passed`.
+-- `lent::call_refusal` meets its contract: a walk of its MIR, by hand. A turn of the loop copies one record out of the chain and calls `with`; the chain is passed to `each_refusal` where a driver isn't of the old family.
 -- Assumes nothing.
-use Rattle.ground.proofs.Names.{none, take, ltb, arith, ap₂, Bool}
+use Rattle.lent.proofs.Logic.{_≡_, refl, subst, ℕ, _+_, _-_, _<_, List, [], _∷_, lit<, length, getD, URA, fullShare, named, tyPtr, tyBool, SProp, emp, id⊢, via, fst∗, Lft, GName, Share, ftrue, fat, flft, Memory, Routine, Heap, Tables, Atoms, Fun, givenOf, tables, tablesOf, Given, Item, ‵, _⊛_, put, _$_, _∵_, !, qed, move, keep, split, join, rewrite, fsplit, fjoin, suffices, frame, done, look, init, lit, of-opd, and-then, no-more, returns, enter, params1, pass1, pass0, fmOf, RattleType, owns, Is, RefT, ShrSlice, Room, shr-slice-copy, use1, slice-vals, shr-slice-tells, plain, nothing, owned, Bound, tripleOf, Triple, cited, says, Stays, shrSliceOf, stay-dropped, goes-dropped, ends-at, yes, Local}
+use Rattle.ground.proofs.Names.{none, take, true}
 use mathlib.Core.Option.{some}
-use Rattle.pass.proofs.Typed.{bytes-of}
-use Rattle.lent.proofs.Logic.{_≡_, refl, ap, _∙_, subst, ℕ, _+_, List, [], _∷_, lit<, length, getD, URA, fullShare, named, tyPtr, tyBool, SProp, emp, id⊢, via, fst∗, Lft, GName, Share, ftrue, fat, flft, Memory, Routine, Heap, Tables, Atoms, Fun, givenOf, tables, tablesOf, Given, ‵, _⊛_, _$_, _∵_, !, qed, move, keep, split, join, rewrite, fsplit, fjoin, suffices, frame, done, look, init, lit, of-opd, and-then, no-more, returns, enter, params1, pass1, pass0, fmOf, RattleType, owns, Is, RefT, ShrSlice, Room, shr-slice-copy, use1, slice-vals, shr-slice-tells, plain, nothing, owned, Bound, tripleOf, Triple, cited, says, Stays, shrSliceOf, stay-dropped, goes-dropped, ends-at, yes, Local}
 use Rattle.device.specs.PowerUp.{powerUp}
-use Rattle.device.specs.Families.{families}
 use Rattle.device.specs.declared.Device.{Device}
-use Rattle.calls.specs.CallRefusals.{familiesBelow, allSound}
-use Rattle.pass.specs.Widths.{AllBytes, noWidths, widthsWith, widthsOf}
-use Rattle.pass.specs.Seen.{noSeen, passedWith, seenTo, again, soundAgain, knownAgain, namedAgain}
-use Rattle.pass.specs.Found.{byArguments, toPass, foundNamed}
-use Rattle.pass.specs.declared.Own.{Own}
+use Rattle.pass.proofs.Typed.{bytes-of}
+use Rattle.pass.specs.Widths.{AllBytes, noWidths, widthsWith, widthsOf, fit, allOld}
 use Rattle.pass.specs.declared.Widths.{Widths}
-use Rattle.pass.specs.declared.Seen.{Seen}
+use Rattle.pass.specs.Found.{byArguments, toPass, foundOld, callRefusal}
 use Rattle.pass.proofs.WidthLaws.{widths-start, widths-more, all-start, all-more}
-use Rattle.pass.proofs.SeenLaws.{to-start, to-more}
-use Rattle.pass.proofs.AgainLaws.{again-sound, again-known, again-named, again-below}
-use Rattle.pass.proofs.FoundLaws.{pass-below, call-found}
-use Rattle.pass.proofs.by_arguments as early′
-use Rattle.pass.proofs.to_pass as look′
-use Rattle.pass.proofs.found_named_again as last′
-use Rattle.pass.proofs.again as again′
-use Rattle.pass.proofs.Widths.new as new
-use Rattle.pass.proofs.Widths.with as also
-use Rattle.pass.proofs.Seen.new as new-seen
-use Rattle.pass.proofs.Seen.passed as also-seen
-use Rattle.lent.proofs.Records.{size, byte, device, device-sized, widths, seen, ownTests}
+use Rattle.pass.proofs.FoundLaws.{pass-below, call-old}
+use Rattle.lent.proofs.Records.{size, byte, word, device, device-sized, widths}
 use Rattle.lent.proofs.Locals.{values, envOf, starts, leaves, var, sets, lands-in, lands-over, count}
 use Rattle.lent.proofs.Slices.{sharedTy, Spots, goes-over, copies-out}
-use Rattle.lent.proofs.Walk.{Walk, calls-value, proves}
-use Rattle.lent.proofs.call_refusal as call-refusal
+use Rattle.lent.proofs.Numbers.{held-true, numbers}
+use Rattle.lent.proofs.Walk.{Walk, flag, calls-value, forks, proves}
+use Rattle.pass.proofs.by_arguments as early′
+use Rattle.pass.proofs.to_pass as look′
+use Rattle.pass.proofs.Widths.new as new
+use Rattle.pass.proofs.Widths.with as also
+use Rattle.pass.proofs.Widths.old as old′
+use Rattle.pass.proofs.found_old as last′
+use Rattle.lent.proofs.each_refusal as each′
+use Rattle.lent.proofs.call_refusal as this
 
 abbrev R : RattleType
 R = device .row
 
-abbrev stayed : Stays (call-refusal.ended .signature .params) (call-refusal.ended .kept)
-stayed = (stay-dropped (shrSliceOf (0 ∷ []) tt (plain (λ _. R))) yes, (stay-dropped (plain (λ _. size .row)) yes, (stay-dropped (plain (λ _. ownTests .row)) yes, tt)))
+abbrev stayed : Stays (this.ended .signature .params) (this.ended .kept)
+stayed = (stay-dropped (shrSliceOf (0 ∷ []) tt (plain (λ _. R))) yes, (stay-dropped (plain (λ _. size .row)) yes, (stay-dropped (plain (λ _. word .row)) yes, tt)))
 
 -- s is a value of its type
 abbrev IsWidths : Widths → Type 0
 IsWidths s = Is (widths .row) s (widths .val s ∷ [])
 
-abbrev IsSeen : Seen → Type 0
-IsSeen s = Is (seen .row) s (seen .val s ∷ [])
-
 -- the locals
 abbrev ls : List Local
-ls = values (byte .ty ∷ sharedTy device (named 0) ∷ size .ty ∷ ownTests .ty ∷ size .ty ∷ byte .ty ∷ size .ty ∷ widths .ty ∷ size .ty ∷ size .ty ∷ seen .ty ∷ size .ty ∷ tyBool ∷ size .ty ∷ tyPtr ∷ device .ty ∷ tyBool ∷ size .ty ∷ tyPtr ∷ device .ty ∷ [])
+ls = values (byte .ty ∷ sharedTy device (named 0) ∷ size .ty ∷ word .ty ∷ size .ty ∷ byte .ty ∷ size .ty ∷ widths .ty ∷ size .ty ∷ tyBool ∷ size .ty ∷ tyPtr ∷ device .ty ∷ tyBool ∷ [])
 
 -- the functions called, met
 record Known {M : Type 1} (𝓤 : URA M) (H : Heap 𝓤) (A : Atoms 𝓤) (mem : Memory → SProp 𝓤) (run : Routine → Fun 𝓤) (𝓣 : Tables 𝓤 H) : Type 1 where
@@ -55,12 +45,11 @@ record Known {M : Type 1} (𝓤 : URA M) (H : Heap 𝓤) (A : Atoms 𝓤) (mem :
   look : Triple 𝓤 (𝓣 .C look′.Symbol.name) (tripleOf 𝓤 H A look′.signature (look′.spec 𝓤 H A mem run))
   new : Triple 𝓤 (𝓣 .C new.Symbol.name) (tripleOf 𝓤 H A new.signature (new.spec 𝓤 H A mem run))
   also : Triple 𝓤 (𝓣 .C also.Symbol.name) (tripleOf 𝓤 H A also.signature (also.spec 𝓤 H A mem run))
-  again : Triple 𝓤 (𝓣 .C again′.Symbol.name) (tripleOf 𝓤 H A again′.signature (again′.spec 𝓤 H A mem run))
-  new-seen : Triple 𝓤 (𝓣 .C new-seen.Symbol.name) (tripleOf 𝓤 H A new-seen.signature (new-seen.spec 𝓤 H A mem run))
-  also-seen : Triple 𝓤 (𝓣 .C also-seen.Symbol.name) (tripleOf 𝓤 H A also-seen.signature (also-seen.spec 𝓤 H A mem run))
+  old : Triple 𝓤 (𝓣 .C old′.Symbol.name) (tripleOf 𝓤 H A old′.signature (old′.spec 𝓤 H A mem run))
   last : Triple 𝓤 (𝓣 .C last′.Symbol.name) (tripleOf 𝓤 H A last′.signature (last′.spec 𝓤 H A mem run))
+  each : Triple 𝓤 (𝓣 .C each′.Symbol.name) (tripleOf 𝓤 H A each′.signature (each′.spec 𝓤 H A mem run))
 
-module _ {M : Type 1} (𝓤 : URA M) (H : Heap 𝓤) (A : Atoms 𝓤) (W : Given 𝓤 H A) (mem : Memory → SProp 𝓤) (run : Routine → Fun 𝓤) (κ : Lft) (q : Share) (b o : ℕ) (γ : GName) (ys : List Device) (driver : ℕ) (own : Own) where
+module _ {M : Type 1} (𝓤 : URA M) (H : Heap 𝓤) (A : Atoms 𝓤) (W : Given 𝓤 H A) (mem : Memory → SProp 𝓤) (run : Routine → Fun 𝓤) (κ : Lft) (q : Share) (b o : ℕ) (γ : GName) (ys : List Device) (driver own : ℕ) where
   abbrev n : ℕ
   n = length ys
 
@@ -74,81 +63,64 @@ module _ {M : Type 1} (𝓤 : URA M) (H : Heap 𝓤) (A : Atoms 𝓤) (W : Given
   abbrev at : ℕ → Widths
   at i = widthsOf noWidths (take i ys)
 
-  -- those passed again
-  abbrev r : ℕ
-  r = again m (at m)
-
-  abbrev at-again : ℕ → Seen
-  at-again i = seenTo ys driver i
-
-  abbrev number : ℕ
-  number = foundNamed early (soundAgain (at m) (at-again r)) (knownAgain (at m) (at-again r)) own (namedAgain (at m) (at-again r))
+  -- what is returned: the call's number
+  abbrev Answer : Type 0
+  Answer = (k : ℕ) × ((k ≡ callRefusal ys driver own) × Is (byte .row) k (byte .val k ∷ []))
 
   abbrev x : RefT (List Device)
   x = record { ptr = (b, o); name = γ; now = ys }
 
-  abbrev y : Bound 𝓤 H A call-refusal.signature
-  y = ((κ, tt), (q, tt), tt, (x, (driver, (own, tt))), (slice-vals x, (size .val driver ∷ [], (ownTests .val own ∷ [], tt))))
+  abbrev y : Bound 𝓤 H A this.signature
+  y = ((κ, tt), (q, tt), tt, (x, (driver, (own, tt))), (slice-vals x, (size .val driver ∷ [], (word .val own ∷ [], tt))))
 
-  walk : (𝓣 : Tables 𝓤 H) → Known 𝓤 H A mem run 𝓣 → Room R n → Is (size .row) driver (size .val driver ∷ []) → Is (ownTests .row) own (ownTests .val own ∷ []) → Walk 𝓤 H A call-refusal.ended stayed (call-refusal.clauses 𝓤 H A mem run) 𝓣 call-refusal.Code.function y tt
+  walk : (𝓣 : Tables 𝓤 H) → Known 𝓤 H A mem run 𝓣 → Room R (length ys) → Is (size .row) driver (size .val driver ∷ []) → Is (word .row) own (word .val own ∷ []) → Walk 𝓤 H A this.ended stayed (this.clauses 𝓤 H A mem run) 𝓣 this.Code.function y tt
   walk 𝓣 known room is-j is-own =
-      qed W ((‵ (flft κ q) ⊛ ‵ ftrue) ∷ ‵ (owns (ShrSlice (named 0) κ R ∷ size .row ∷ ownTests .row ∷ []) (y .3) (y .4)) ∷ []) ∵ enter ! (𝓣 .C) (𝓣 .Λ) call-refusal.Code.function _ _ $
-      starts W ls ! (λ l D dies. params1 ! $ pass1 ! (init ! 1 refl (tt, (tt, (record { fits = room .0 }, tt)))) $ pass1 ! (init ! 2 refl (size .typed 𝓤 H A W driver is-j)) $ pass1 ! (init ! 3 refl (ownTests .typed 𝓤 H A W own is-own)) $ pass0 ! $
-      -- [_0; _1; ..; _19; that they die; the token; what the parameters own]
+      qed W ((‵ (flft κ q) ⊛ ‵ ftrue) ∷ ‵ (owns (ShrSlice (named 0) κ R ∷ size .row ∷ word .row ∷ []) (y .3) (y .4)) ∷ []) ∵ enter ! (𝓣 .C) (𝓣 .Λ) this.Code.function _ _ $
+      starts W ls ! (λ l D dies. params1 ! $ pass1 ! (init ! 1 refl (tt, (tt, (record { fits = room .0 }, tt)))) $ pass1 ! (init ! 2 refl (size .typed 𝓤 H A W driver is-j)) $ pass1 ! (init ! 3 refl (word .typed 𝓤 H A W own is-own)) $ pass0 ! $
+      -- [_0; _1; ..; _13; that they die; the token; what the parameters own]
       sets ! (of-opd ! (count ! 1 refl refl)) 4 refl refl (tt, record { fits = room .0 }) $
       calls-value ! (fmOf 𝓤 H (W .laws) 𝓣) (size ∷ size ∷ []) byte (λ _. emp 𝓤) (λ a. byArguments (a .0) (a .1 .0)) (known .early) (n, (driver, tt)) ((refl, room .0), (is-j, tt)) (id⊢ 𝓤 _)
       (and-then ! (var ! 5 refl refl) (and-then ! (var ! 3 refl refl) (no-more !))) (λ is-early wt-early. lands-in ! 5 refl refl wt-early $
       calls-value ! (fmOf 𝓤 H (W .laws) 𝓣) (byte ∷ size ∷ []) size (λ _. emp 𝓤) (λ a. toPass (a .0) (a .1 .0)) (known .look) (early, (n, tt)) (is-early, ((refl, room .0), tt)) (id⊢ 𝓤 _) (and-then ! (var ! 6 refl refl) (and-then ! (var ! 5 refl refl) (no-more !))) (λ is-m wt-m. lands-in ! 6 refl refl wt-m $
       calls-value ! (fmOf 𝓤 H (W .laws) 𝓣) [] widths (λ _. emp 𝓤) (λ _. noWidths) (known .new) tt tt (id⊢ 𝓤 _) (no-more !) (λ is-none wt-none. lands-in ! 7 refl refl wt-none $ rewrite ! 7 (λ (s : Widths). ‵ (fat fullShare (widths .ty) (l 7) 0 (widths .val s))) (widths-start ys) refl $
-      sets ! (of-opd ! (lit ! tt)) 8 refl refl (tt, record { fits = lit< tt }) $ move ! (22 ∷ 21 ∷ []) $ fsplit ! $ move ! (2 ∷ []) $ split ! $
-      -- [the token; true; what the chain owns; what the others own; _0, at 4; ..; _19; that they die]. The chain is looked into twice
+      sets ! (of-opd ! (lit ! tt)) 8 refl refl (tt, record { fits = lit< tt }) $ move ! (16 ∷ 15 ∷ []) $ fsplit ! $ move ! (2 ∷ []) $ split ! $
+      -- [the token; true; what the chain owns; what the others own; _0, at 4; ..; _13; that they die]. The chain is looked into, and passed on
       move ! (2 ∷ []) $ use1 W (‵ (ShrSlice (named 0) κ R .own x (slice-vals x)) ⊛ ‵ (ShrSlice (named 0) κ R .own x (slice-vals x))) (shr-slice-copy 𝓤 H A W (named 0) κ R .twice x (slice-vals x)) $ split ! $
-      -- [what the chain owns, twice; the token; true; what the others own; _0, at 5; ..; _19; that they die]
-      let spots : Spots 𝓤 H device (named 0) (envOf ls l) 1 6 8 12 13 14 15 = record { at = λ k. getD (l 1 ∷ l 6 ∷ l 8 ∷ l 12 ∷ l 13 ∷ l 14 ∷ l 15 ∷ []) k 0; slice = refl; end = refl; count = refl; test = refl; scaled = refl; pointer = refl; copied = refl } in
-      move ! (2 ∷ 0 ∷ 6 ∷ 11 ∷ 13 ∷ 17 ∷ 18 ∷ 19 ∷ 20 ∷ 12 ∷ []) $
+      -- [what the chain owns, twice; the token; true; what the others own; _0, at 5; ..; _13; that they die]
+      let spots : Spots 𝓤 H device (named 0) (envOf ls l) 1 6 8 9 10 11 12 = record { at = λ k. getD (l 1 ∷ l 6 ∷ l 8 ∷ l 9 ∷ l 10 ∷ l 11 ∷ l 12 ∷ []) k 0; slice = refl; end = refl; count = refl; test = refl; scaled = refl; pointer = refl; copied = refl } in
+      move ! (2 ∷ 0 ∷ 6 ∷ 11 ∷ 13 ∷ 14 ∷ 15 ∷ 16 ∷ 17 ∷ 12 ∷ []) $
       goes-over spots device-sized ! 𝓣 x room m (pass-below early n) (λ i. IsWidths (at i) × AllBytes (take i ys)) (subst IsWidths (widths-start ys) is-none, all-start ys) (λ i. ‵ (fat fullShare (widths .ty) (l 7) 0 (widths .val (at i))) ∷ []) _ (λ q′ B i l′ good Q next.
       let below = pass-below early n i l′ in
       let e : Device = getD ys i powerUp in
       let step : widthsWith (at i) e ≡ at (i + 1) = widths-more ys i below in
-      -- [the records; their open borrow; _1; _6; _8; _12; ..; _15; _7]
+      -- [the records; their open borrow; _1; _6; _8; ..; _12; _7]
       copies-out spots device-sized ! q′ x i powerUp below room (λ is-e.
       calls-value ! (fmOf 𝓤 H (W .laws) 𝓣) (widths ∷ device ∷ []) widths (λ _. emp 𝓤) (λ a. widthsWith (a .0) (a .1 .0)) (known .also) (at i, (e, tt)) (good .0, (is-e, tt)) (id⊢ 𝓤 _) (and-then ! (var ! 10 refl refl) (and-then ! (var ! 9 refl refl) (no-more !))) (λ is-next wt-next.
       lands-over ! 9 refl refl wt-next $ rewrite ! 9 (λ (s : Widths). ‵ (fat fullShare (widths .ty) (l 7) 0 (widths .val s))) step refl $ next (subst IsWidths step is-next, all-more ys i below (good .1) (bytes-of e _ is-e)) _ _)))
-      -- [the token; _1; _6; _8; _12; ..; _15; _7, at 8; what the chain owns; true; what the others own; _0, at 12; _2; ..; _5; _9; ..; _11; _16; ..; _19; that they die]
-      (λ good. calls-value ! (fmOf 𝓤 H (W .laws) 𝓣) (size ∷ widths ∷ []) size (λ _. emp 𝓤) (λ a. again (a .0) (a .1 .0)) (known .again) (m, (at m, tt)) (is-m, (good .0, tt)) (id⊢ 𝓤 _) (and-then ! (var ! 3 refl refl) (and-then ! (var ! 9 refl refl) (no-more !))) (λ is-again wt-again. lands-in ! 17 refl refl wt-again $
-      calls-value ! (fmOf 𝓤 H (W .laws) 𝓣) [] seen (λ _. emp 𝓤) (λ _. noSeen) (known .new-seen) tt tt (id⊢ 𝓤 _) (no-more !) (λ is-no wt-no. lands-in ! 18 refl refl wt-no $ rewrite ! 18 (λ (s : Seen). ‵ (fat fullShare (seen .ty) (l 10) 0 (seen .val s))) (to-start ys driver) refl $
-      sets ! (of-opd ! (lit ! tt)) 19 refl refl (tt, record { fits = lit< tt }) $
-      let spots₂ : Spots 𝓤 H device (named 0) (envOf ls l) 1 9 11 16 17 18 19 = record { at = λ k. getD (l 1 ∷ l 9 ∷ l 11 ∷ l 16 ∷ l 17 ∷ l 18 ∷ l 19 ∷ []) k 0; slice = refl; end = refl; count = refl; test = refl; scaled = refl; pointer = refl; copied = refl } in
-      move ! (0 ∷ 9 ∷ 1 ∷ 17 ∷ 19 ∷ 20 ∷ 21 ∷ 22 ∷ 23 ∷ 18 ∷ 13 ∷ []) $
-      goes-over spots₂ device-sized ! 𝓣 x room r (λ i l. pass-below early n i (again-below m i (at m) l)) (λ i. IsSeen (at-again i)) (subst IsSeen (to-start ys driver) is-no) (λ i. ‵ (fat fullShare (seen .ty) (l 10) 0 (seen .val (at-again i))) ∷ ‵ (fat fullShare (size .ty) (l 2) 0 (size .val driver)) ∷ []) _ (λ q′ B i l′ fine Q next.
-      let below = pass-below early n i (again-below m i (at m) l′) in
-      let e : Device = getD ys i powerUp in
-      let step : passedWith (at-again i) e i driver ≡ at-again (i + 1) = to-more ys driver i below in
-      -- [the records; their open borrow; _1; _9; _11; _16; ..; _19; _10; _2]
-      copies-out spots₂ device-sized ! q′ x i powerUp below room (λ is-e.
-      calls-value ! (fmOf 𝓤 H (W .laws) 𝓣) (seen ∷ device ∷ size ∷ size ∷ []) seen (λ _. emp 𝓤) (λ a. passedWith (a .0) (a .1 .0) (a .1 .1 .0) (a .1 .1 .1 .0)) (known .also-seen) (at-again i, (e, (i, (driver, tt)))) (fine, (is-e, ((refl, omega (arith, below, room .0)), (is-j, tt)))) (id⊢ 𝓤 _) (and-then ! (var ! 10 refl refl) (and-then ! (var ! 9 refl refl) (and-then ! (var ! 5 refl refl) (and-then ! (var ! 11 refl refl) (no-more !))))) (λ is-next wt-next.
-      lands-over ! 9 refl refl wt-next $ rewrite ! 9 (λ (s : Seen). ‵ (fat fullShare (seen .ty) (l 10) 0 (seen .val s))) step refl $ next (subst IsSeen step is-next) _ _)))
-      -- [the token; _1; _9; _11; _16; ..; _19; _10, at 8; _2; _6; _8; _12; ..; _15; _7, at 16; true; what the others own; _0, at 19; _3; ..; _5; that they die]
-      (λ fine. calls-value ! (fmOf 𝓤 H (W .laws) 𝓣) (byte ∷ widths ∷ seen ∷ ownTests ∷ []) byte (λ _. emp 𝓤) (λ a. foundNamed (a .0) (soundAgain (a .1 .0) (a .1 .1 .0)) (knownAgain (a .1 .0) (a .1 .1 .0)) (a .1 .1 .1 .0) (namedAgain (a .1 .0) (a .1 .1 .0))) (known .last) (early, (at m, (at-again r, (own, tt)))) (is-early, (good .0, (fine, (is-own, tt)))) (id⊢ 𝓤 _)
-      (and-then ! (var ! 23 refl refl) (and-then ! (var ! 17 refl refl) (and-then ! (var ! 9 refl refl) (and-then ! (var ! 21 refl refl) (no-more !))))) (λ is-r wt-r. lands-in ! 19 refl refl wt-r $
-      returns ! (look ! 19 refl) $ move ! (19 ∷ 1 ∷ 9 ∷ 20 ∷ 21 ∷ 22 ∷ 10 ∷ 16 ∷ 11 ∷ 2 ∷ 8 ∷ 3 ∷ 12 ∷ 13 ∷ 14 ∷ 15 ∷ 4 ∷ 5 ∷ 6 ∷ 7 ∷ 23 ∷ []) $ leaves W dies (some _ ∷ some _ ∷ some _ ∷ some _ ∷ some _ ∷ some _ ∷ some _ ∷ some _ ∷ some _ ∷ some _ ∷ some _ ∷ some _ ∷ some _ ∷ none ∷ none ∷ none ∷ some _ ∷ []) ! $ keep ! (0 ∷ []) $
-      suffices ! _ (ends-at 𝓤 H A call-refusal.ended stayed (call-refusal.clauses 𝓤 H A mem run) W (y, tt) (byte .val number) number (tt, (tt, (tt, tt))) (tt, (tt, (tt, tt)))) $ says ! (ap₂ (λ (a b : Bool). foundNamed early a b own (namedAgain (at m) (at-again r))) (again-sound ys m (good .1)) (again-known ys m (good .1)) ∙ ap (λ (f : ℕ). foundNamed early (allSound (take m ys)) (familiesBelow 2 (families (take m ys))) own f) (again-named ys m (good .1) driver) ∙ call-found ys driver own) $
-      nothing ! $ move ! (1 ∷ 0 ∷ []) $ join ! $ frame ! $ nothing ! $ nothing ! $ fjoin ! $ nothing ! $ fjoin ! $ nothing ! $ fjoin ! $ frame ! $ owned ! (byte .row) (Is (byte .row)) (byte .makes 𝓤 H A W) number _ is-r $ done !)))))))))
+      -- [the token; _1; _6; _8; ..; _12; _7, at 8; what the chain owns; true; what the others own; _0, at 12; _2; ..; _5; _13; that they die]
+      (λ good. calls-value ! (fmOf 𝓤 H (W .laws) 𝓣) (widths ∷ []) flag (λ _. emp 𝓤) (λ a. allOld (a .0)) (known .old) (at m, tt) (good .0, tt) (id⊢ 𝓤 _) (and-then ! (var ! 9 refl refl) (no-more !)) (λ is-old wt-old. lands-in ! 17 refl refl wt-old $ move ! (9 ∷ 0 ∷ []) $
+      -- [what the chain owns; the token; _1; _6; _8; ..; _12; _7, at 9; true; what the others own; _0, at 12; ..]
+      forks ! (λ (a : Answer) (Γ : List (Item 𝓤)). put 𝓤 H A 12 (‵ (fat fullShare (byte .ty) (l 0) 0 (byte .val (a .0)))) Γ) (var ! 17 refl refl)
+      (λ p end all. calls-value ! (fmOf 𝓤 H (W .laws) 𝓣) (byte ∷ widths ∷ word ∷ []) byte (λ _. emp 𝓤) (λ a. foundOld (a .0) (fit (a .1 .0)) (a .1 .1 .0)) (known .last) (early, (at m, (own, tt))) (is-early, (good .0, (is-own, tt))) (id⊢ 𝓤 _) (and-then ! (var ! 17 refl refl) (and-then ! (var ! 10 refl refl) (and-then ! (var ! 15 refl refl) (no-more !)))) (λ is-r wt-r.
+      lands-in ! 12 refl refl wt-r $ end (foundOld early (fit (at m)) own, (call-old ys driver own (good .1) (held-true (allOld (at m)) all), is-r))))
+      (λ end some′. numbers size word callRefusal ! (fmOf 𝓤 H (W .laws) 𝓣) (known .each) κ q x driver own is-j is-own (λ i s. and-then ! (var ! 2 refl refl) (and-then ! (var ! 13 refl refl) (and-then ! (var ! 14 refl refl) (no-more !)))) (λ is-r wt-r. lands-in ! 12 refl refl wt-r $ end (callRefusal ys driver own, (refl, is-r))))
+      (λ a. returns ! (look ! 12 refl) $ move ! (12 ∷ 2 ∷ 13 ∷ 14 ∷ 15 ∷ 16 ∷ 3 ∷ 9 ∷ 4 ∷ 5 ∷ 6 ∷ 7 ∷ 8 ∷ 17 ∷ 18 ∷ []) $ leaves W dies (some _ ∷ some _ ∷ some _ ∷ some _ ∷ some _ ∷ some _ ∷ some _ ∷ some _ ∷ some _ ∷ some _ ∷ none ∷ none ∷ none ∷ some _ ∷ []) ! $ keep ! (1 ∷ []) $
+      suffices ! _ (ends-at 𝓤 H A this.ended stayed (this.clauses 𝓤 H A mem run) W (y, tt) (byte .val (a .0)) (a .0) (tt, (tt, (tt, tt))) (tt, (tt, (tt, tt)))) $ says ! (a .1 .0) $
+      nothing ! $ move ! (1 ∷ 0 ∷ []) $ join ! $ frame ! $ nothing ! $ nothing ! $ fjoin ! $ nothing ! $ fjoin ! $ nothing ! $ fjoin ! $ frame ! $ owned ! (byte .row) (Is (byte .row)) (byte .makes 𝓤 H A W) (a .0) _ (a .1 .1) $ done !)))))))
 
-pub call-refusal-spec : {M : Type 1} → call-refusal.Statement.statement M
-unfolding call-refusal.Code.routine tablesOf
+pub call-refusal-spec : {M : Type 1} → this.Statement.statement M
+unfolding this.Code.routine tablesOf
 call-refusal-spec 𝓤 H 𝓜 𝓖 𝓡 =
     let W = givenOf 𝓤 H 𝓜 𝓖 in
-    proves 𝓤 H 𝓜 𝓖 𝓡 call-refusal.Code.env call-refusal.ended stayed (call-refusal.clauses 𝓤 H (𝓖 .A) (𝓜 .mem) (𝓡 .run)) (goes-dropped 𝓤 H (𝓖 .A) W 1 (shrSliceOf (0 ∷ []) tt (plain (λ _. R))) yes (λ κs x f. refl), (goes-dropped 𝓤 H (𝓖 .A) W 1 (plain (λ _. size .row)) yes (λ κs x f. refl), (goes-dropped 𝓤 H (𝓖 .A) W 1 (plain (λ _. ownTests .row)) yes (λ κs x f. refl), tt)))
-    call-refusal.Key.name call-refusal.Code.function (call-refusal.Code.unfolded 𝓤 H 𝓜 𝓡) (λ κs. (slice-vals, ((λ n. size .val n ∷ []), ((λ n. ownTests .val n ∷ []), tt)))) (λ κs. (shr-slice-tells (named 0) (κs .0) R, (size .tells, (ownTests .tells, tt))))
-    (λ κs qs bounds a g are. via 𝓤 _ (fst∗ 𝓤 _ (emp 𝓤)) (walk 𝓤 H (𝓖 .A) W (𝓜 .mem) (𝓡 .run) (κs .0) (qs .0) (a .0 .ptr .0) (a .0 .ptr .1) (a .0 .name) (a .0 .now) (a .1 .0) (a .1 .1 .0) (tablesOf 𝓤 H 𝓜 (tables 𝓤 H 𝓜 𝓡 call-refusal.Code.env))
+    proves 𝓤 H 𝓜 𝓖 𝓡 this.Code.env this.ended stayed (this.clauses 𝓤 H (𝓖 .A) (𝓜 .mem) (𝓡 .run)) (goes-dropped 𝓤 H (𝓖 .A) W 1 (shrSliceOf (0 ∷ []) tt (plain (λ _. R))) yes (λ κs x f. refl), (goes-dropped 𝓤 H (𝓖 .A) W 1 (plain (λ _. size .row)) yes (λ κs x f. refl), (goes-dropped 𝓤 H (𝓖 .A) W 1 (plain (λ _. word .row)) yes (λ κs x f. refl), tt)))
+    this.Key.name this.Code.function (this.Code.unfolded 𝓤 H 𝓜 𝓡) (λ κs. (slice-vals, ((λ n. size .val n ∷ []), ((λ n. word .val n ∷ []), tt)))) (λ κs. (shr-slice-tells (named 0) (κs .0) R, (size .tells, (word .tells, tt))))
+    (λ κs qs bounds a g are. via 𝓤 _ (fst∗ 𝓤 _ (emp 𝓤)) (walk 𝓤 H (𝓖 .A) W (𝓜 .mem) (𝓡 .run) (κs .0) (qs .0) (a .0 .ptr .0) (a .0 .ptr .1) (a .0 .name) (a .0 .now) (a .1 .0) (a .1 .1 .0) (tablesOf 𝓤 H 𝓜 (tables 𝓤 H 𝓜 𝓡 this.Code.env))
     (record {
-      early = cited 𝓤 H _ 𝓜 𝓡 call-refusal.Code.env early′.Symbol.name early′.Symbol.routine call-refusal.Code.calls-pass·by-arguments (early′.Met.met 𝓤 H 𝓜 𝓖 𝓡);
-      look = cited 𝓤 H _ 𝓜 𝓡 call-refusal.Code.env look′.Symbol.name look′.Symbol.routine call-refusal.Code.calls-pass·to-pass (look′.Met.met 𝓤 H 𝓜 𝓖 𝓡);
-      new = cited 𝓤 H _ 𝓜 𝓡 call-refusal.Code.env new.Symbol.name new.Symbol.routine call-refusal.Code.calls-pass·Widths·new (new.Met.met 𝓤 H 𝓜 𝓖 𝓡);
-      also = cited 𝓤 H _ 𝓜 𝓡 call-refusal.Code.env also.Symbol.name also.Symbol.routine call-refusal.Code.calls-pass·Widths·with (also.Met.met 𝓤 H 𝓜 𝓖 𝓡);
-      again = cited 𝓤 H _ 𝓜 𝓡 call-refusal.Code.env again′.Symbol.name again′.Symbol.routine call-refusal.Code.calls-pass·again (again′.Met.met 𝓤 H 𝓜 𝓖 𝓡);
-      new-seen = cited 𝓤 H _ 𝓜 𝓡 call-refusal.Code.env new-seen.Symbol.name new-seen.Symbol.routine call-refusal.Code.calls-pass·Seen·new (new-seen.Met.met 𝓤 H 𝓜 𝓖 𝓡);
-      also-seen = cited 𝓤 H _ 𝓜 𝓡 call-refusal.Code.env also-seen.Symbol.name also-seen.Symbol.routine call-refusal.Code.calls-pass·Seen·passed (also-seen.Met.met 𝓤 H 𝓜 𝓖 𝓡);
-      last = cited 𝓤 H _ 𝓜 𝓡 call-refusal.Code.env last′.Symbol.name last′.Symbol.routine call-refusal.Code.calls-pass·found-named-again (last′.Met.met 𝓤 H 𝓜 𝓖 𝓡);
+      early = cited 𝓤 H _ 𝓜 𝓡 this.Code.env early′.Symbol.name early′.Symbol.routine this.Code.calls-pass·by-arguments (early′.Met.met 𝓤 H 𝓜 𝓖 𝓡);
+      look = cited 𝓤 H _ 𝓜 𝓡 this.Code.env look′.Symbol.name look′.Symbol.routine this.Code.calls-pass·to-pass (look′.Met.met 𝓤 H 𝓜 𝓖 𝓡);
+      new = cited 𝓤 H _ 𝓜 𝓡 this.Code.env new.Symbol.name new.Symbol.routine this.Code.calls-pass·Widths·new (new.Met.met 𝓤 H 𝓜 𝓖 𝓡);
+      also = cited 𝓤 H _ 𝓜 𝓡 this.Code.env also.Symbol.name also.Symbol.routine this.Code.calls-pass·Widths·with (also.Met.met 𝓤 H 𝓜 𝓖 𝓡);
+      old = cited 𝓤 H _ 𝓜 𝓡 this.Code.env old′.Symbol.name old′.Symbol.routine this.Code.calls-pass·Widths·old (old′.Met.met 𝓤 H 𝓜 𝓖 𝓡);
+      last = cited 𝓤 H _ 𝓜 𝓡 this.Code.env last′.Symbol.name last′.Symbol.routine this.Code.calls-pass·found-old (last′.Met.met 𝓤 H 𝓜 𝓖 𝓡);
+      each = cited 𝓤 H _ 𝓜 𝓡 this.Code.env each′.Symbol.name each′.Symbol.routine this.Code.calls-lent·each-refusal (each′.Met.met 𝓤 H 𝓜 𝓖 𝓡);
     }) (are .0 .0 .1) (are .1 .0) (are .1 .1 .0)))

@@ -249,13 +249,13 @@ pub extern "C" fn max6954_answer_mark(chain: &[Device], driver: usize) -> MarkAn
     answers::mark(chain[at])
 }
 
-// What each of P4 to P31 of a MAX6957 shows.
+// What each of P4 to P31 of a MAX6957 drives.
 #[no_mangle]
 pub extern "C" fn max6957_ports(chain: &[Device], driver: usize) -> PortAnswer
     ensures { λ r. ⌜ outcome (ask driver portsQuestion) (now (chain .entry)) ≡ record { number = r .number; records = now (chain .entry); back = r .ports } ⌝ }
 {
     let own = pass::ports_refusal();
-    let number = lent::call_refusal(chain, driver, own);
+    let number = lent::each_refusal(chain, driver, own);
     if number != 0 {
         return answers::ports_refused(number);
     }

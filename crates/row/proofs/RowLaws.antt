@@ -1,6 +1,6 @@
 -- The calls by value do on a row what they do on a lent chain of its records.
 --     length-records                               how many records there are
---     number-found, call-found, access-found       the number
+--     number-found, first-found, call-found, access-found       the number
 --     in-row                                       a driver that is named is one of the sixteen
 --     give-refused, give-done                      a call that gives a driver something
 --     show-refused, show-done                      what a cathode shows, and the answer mark
@@ -21,11 +21,12 @@ use Rattle.calls.specs.Served.{recordOf, stepped, refusedBack}
 use Rattle.calls.specs.Outcome.{number, after, reply, Outcome}
 use Rattle.calls.proofs.Accepted.{after-zero, reply-zero}
 use Rattle.pass.specs.Own.{stepOwn, questionOwn}
-use Rattle.pass.specs.Seen.{namedTo}
-use Rattle.pass.specs.Found.{byArguments, accessByArguments, toPass, found, foundNamed, callRefusal}
-use Rattle.pass.specs.declared.Own.{Own}
+use Rattle.pass.specs.Widths.{AllBytes}
+use Rattle.pass.specs.Seen.{noSeen, seenOf, seenFit}
+use Rattle.pass.specs.Found.{byArguments, accessByArguments, toPass, found, foundBy, callRefusal}
 use Rattle.pass.specs.OneByOne.{wordsTo, takenTo}
-use Rattle.pass.proofs.FoundLaws.{in-range, call-found as found-on, give-number as give-on, ask-number as ask-on}
+use Rattle.pass.proofs.FoundLaws.{in-range, call-first, call-there, call-records, give-number as give-on, ask-number as ask-on}
+use Rattle.pass.proofs.SeenLaws.{seen-fit, seen-known, seen-old}
 use Rattle.pass.proofs.AccessLaws.{access-number, access-whole}
 use Rattle.row.specs.Row.{records, numberOn, replyOn, doneOn, shownOn}
 use Rattle.row.specs.declared.Row.{Row}
@@ -52,7 +53,7 @@ module _ (r : Row) (sixteen : length (r .devices) ≡ 16) where
   length-records = rw (length-take, sixteen)
 
   -- a driver that is named is one of the sixteen
-  pub in-row : (j : ℕ) (own : Own) (k : ℕ) → k ≡ callRefusal (records r) j own → k ≡ 0 → (1 ≤ j) × (j ≤ 16)
+  pub in-row : (j : ℕ) (own : ℕ) (k : ℕ) → k ≡ callRefusal (records r) j own → k ≡ 0 → (1 ≤ j) × (j ≤ 16)
   in-row j own k e z =
       let h = in-range (records r) j own (sym e ∙ z) in
       omega (arith, h, length-records)
@@ -62,38 +63,36 @@ module _ (r : Row) (n : ℕ) (l : n ≡ length (records r)) where
   abbrev ds : List Device
   ds = records r
 
-  -- the records that are passed are the chain's
-  part-of : (b : Bool) → take (if b (length ds) 0) (r .devices) ≡ take (if b (length ds) 0) ds
-  part-of true = part-take (r .n) (r .devices) ∙ sym (take-length ds)
-  part-of false = refl
+  -- the first n of the sixteen are the chain's
+  all-of : take n (r .devices) ≡ ds
+  all-of = rw l (part-take (r .n) (r .devices))
 
-  named-of : (j : ℕ) (b : Bool) → namedTo (r .devices) j (if b (length ds) 0) ≡ namedTo ds j (if b (length ds) 0)
-  named-of j b = go (ltb 0 j && leb j (if b (length ds) 0)) refl
+  pub number-found : (first w : ℕ) → w ≡ toPass first n → AllBytes (take w (r .devices))
+      → found first (seenFit (seenOf noSeen (take w (r .devices)))) (ltb (seenOf noSeen (take w (r .devices)) .families) 2) ≡ found first (allSound ds) (familiesBelow 2 (families ds))
+  number-found first w p y = rw (seen-fit (take w (r .devices)) y, seen-known (take w (r .devices)), p) (go (eqb first 0))
     where
-      most : (b : Bool) → if b (length ds) 0 ≤ length ds
-      most true = omega arith
-      most false = omega arith
-      go : (t : Bool) → ltb 0 j && leb j (if b (length ds) 0) ≡ t → if t (getD (r .devices) (j - 1) powerUp .family) 0 ≡ if t (getD ds (j - 1) powerUp .family) 0
-      go true e =
-          let one = ltb-true 0 j (and-left (ltb 0 j) (leb j (if b (length ds) 0)) e) in
-          let some = leb-true j (if b (length ds) 0) (and-right (ltb 0 j) (leb j (if b (length ds) 0)) e) in
-          ap (λ (d : Device). d .family) (part-get (r .n) (r .devices) (j - 1) powerUp (omega (arith, one, some, most b)))
-      go false e = refl
+      go : (b : Bool) → if b (firstOf (soundRefusal (allSound (take (if b n 0) (r .devices))) ∷ familyRefusal (familiesBelow 2 (families (take (if b n 0) (r .devices)))) ∷ [])) first
+          ≡ if b (firstOf (soundRefusal (allSound ds) ∷ familyRefusal (familiesBelow 2 (families ds)) ∷ [])) first
+      go true = rw all-of
+      go false = refl
 
-  pub number-found : (first w : ℕ) (sound known : Bool) → w ≡ toPass first n → sound ≡ allSound (take w (r .devices)) → known ≡ familiesBelow 2 (families (take w (r .devices)))
-      → found first sound known ≡ found first (allSound ds) (familiesBelow 2 (families ds))
-  number-found first w sound known p e k = go (eqb first 0) (rw (p, l) at e) (rw (p, l) at k)
-    where
-      go : (b : Bool) → sound ≡ allSound (take (if b (length ds) 0) (r .devices)) → known ≡ familiesBelow 2 (families (take (if b (length ds) 0) (r .devices)))
-          → if b (firstOf (soundRefusal sound ∷ familyRefusal known ∷ [])) first ≡ if b (firstOf (soundRefusal (allSound ds) ∷ familyRefusal (familiesBelow 2 (families ds)) ∷ [])) first
-      go true e k = ap₂ (λ (a b : Bool). firstOf (soundRefusal a ∷ familyRefusal b ∷ [])) (rw (part-take (r .n) (r .devices)) at e) (rw (part-take (r .n) (r .devices)) at k)
-      go false e k = refl
+  -- the arguments give no number: the driver is there
+  pub there : (j first : ℕ) → first ≡ byArguments n j → first ≡ 0 → (1 ≤ j) × (j ≤ n)
+  there j first f z = rw (← l) at (call-there ds j 0 (rw l at (sym f ∙ z)))
 
-  pub call-found : (j : ℕ) (own : Own) (first w named : ℕ) (sound known : Bool) → first ≡ byArguments n j → w ≡ toPass first n
-      → sound ≡ allSound (take w (r .devices)) → known ≡ familiesBelow 2 (families (take w (r .devices))) → named ≡ namedTo (r .devices) j w
-      → foundNamed first sound known own named ≡ callRefusal ds j own
-  call-found j own first w named sound known f p s k m =
-      rw (m, k, s, p, f, l, part-of (eqb (byArguments (length ds) j) 0), named-of j (eqb (byArguments (length ds) j) 0)) (found-on ds j own)
+  -- they give one
+  pub first-found : (j own first : ℕ) → first ≡ byArguments n j → (first ≡ 0 → ⊥) → first ≡ callRefusal ds j own
+  first-found j own first f z =
+      let e : first ≡ byArguments (length ds) j = rw l at f in
+      e ∙ call-first ds j own (λ q. z (e ∙ q))
+
+  pub call-found : (j own first : ℕ) → first ≡ byArguments n j → first ≡ 0 → AllBytes (take n (r .devices))
+      → foundBy (seenFit (seenOf noSeen (take n (r .devices)))) (ltb (seenOf noSeen (take n (r .devices)) .families) 2) (ltb (seenOf noSeen (take n (r .devices)) .families) 1) own (getD (r .devices) (j - 1) powerUp .family)
+      ≡ callRefusal ds j own
+  call-found j own first f z y =
+      let h = there j first f z in
+      rw (seen-fit (take n (r .devices)) y, seen-known (take n (r .devices)), seen-old (take n (r .devices)), all-of, part-get (r .n) (r .devices) (j - 1) powerUp (omega (arith, h, l)))
+      (call-records ds j own (rw l at (sym f ∙ z)))
 
   pub access-found : (c : ℕ) (sent room : List ℕ) (first : ℕ) → first ≡ accessByArguments n c (length sent) (length room) → found first (allSound ds) (familiesBelow 2 (families ds)) ≡ numberOn r (access c sent room)
   unfolding number
@@ -110,7 +109,7 @@ module _ (r : Row) (q : Call) (k : ℕ) (e : k ≡ numberOn r q) (z : k ≡ 0 �
   refused-reply = rw (← e, ne-eqb k 0 z)
 
 -- ---- a call that gives a driver something
-module _ (r : Row) (j : ℕ) (st : Step) (own : Own) (k : ℕ) (o : own ≡ stepOwn st) (e : k ≡ callRefusal (records r) j own) where
+module _ (r : Row) (j : ℕ) (st : Step) (own : ℕ) (k : ℕ) (o : own ≡ stepOwn st) (e : k ≡ callRefusal (records r) j own) where
   give-number : k ≡ numberOn r (give j st)
   give-number = e ∙ rw o (sym (give-on (records r) j st))
 
@@ -124,7 +123,7 @@ module _ (r : Row) (j : ℕ) (st : Step) (own : Own) (k : ℕ) (o : own ≡ step
       rw (after-zero (give j st) (records r) t, t, part-set (r .n) (r .devices) (j - 1) (stepped st) powerUp (omega (arith, h)))
 
 -- ---- what a cathode shows, and the answer mark
-module _ (r : Row) (j d : ℕ) (font14 font16 : List ℕ) (own : Own) (k : ℕ) (o : own ≡ questionOwn (segments d font14 font16)) (e : k ≡ callRefusal (records r) j own) where
+module _ (r : Row) (j d : ℕ) (font14 font16 : List ℕ) (own : ℕ) (k : ℕ) (o : own ≡ questionOwn (segments d font14 font16)) (e : k ≡ callRefusal (records r) j own) where
   abbrev q : Question
   q = segments d font14 font16
 

@@ -4,15 +4,13 @@ ghost use mathlib.Core.Path.{_≡_};
 ghost use lib.ListN.{length, getD, set, take, replicate};
 ghost use Rattle.device.specs.PowerUp.{powerUp};
 ghost use Rattle.calls.specs.Calls.{access as accessCall, give, scan as scanStep, levels as levelsStep, clocks as clocksStep, segments as segmentsQuestion};
-ghost use lib.Dec.{ltb};
 ghost use Rattle.device.specs.Families.{families};
 ghost use Rattle.calls.specs.CallRefusals.{familiesBelow, allSound};
-ghost use Rattle.pass.specs.Seen.{namedTo, seenFit};
+ghost use Rattle.pass.specs.Seen.{noSeen, seenOf};
 ghost use Rattle.pass.specs.Found.{found, callRefusal};
 ghost use Rattle.pass.specs.OneByOne.{wordsTo, takenTo};
 ghost use Rattle.row.specs.Row.{fresh, records, replyOn, doneOn, shownOn};
 use device::Device;
-use pass::Own;
 use pass::Seen;
 
 // A chain of n drivers: the first n of sixteen records. A length above 16 counts as 16.
@@ -53,16 +51,16 @@ impl Row {
         if self.n < 16 { self.n } else { 16 }
     }
 
-    // What the first n of sixteen records tell, where a call names a driver.
-    fn seen(self, driver: usize, n: usize) -> Seen
+    // What the first n of sixteen records tell.
+    fn seen(self, n: usize) -> Seen
         requires { ⌜ n ≤ 16 ⌝ }
-        ensures { λ r. ⌜ (seenFit r ≡ allSound (take n (self .devices))) × (ltb (r .highest) 2 ≡ familiesBelow 2 (families (take n (self .devices)))) × (r .named ≡ namedTo (self .devices) driver n) ⌝ }
+        ensures { λ r. ⌜ r ≡ seenOf noSeen (take n (self .devices)) ⌝ }
     {
         let mut w = Seen::new();
         let mut i = 0;
         while i < n {
             let d = self.devices[i];
-            w = w.passed(d, i, driver);
+            w = w.with(d);
             i += 1;
         }
         w
@@ -73,18 +71,22 @@ impl Row {
         ensures { λ r. ⌜ r ≡ found first (allSound (records self)) (familiesBelow 2 (families (records self))) ⌝ }
     {
         let n = self.length();
-        let w = self.seen(0, pass::to_pass(first, n));
+        let w = self.seen(pass::to_pass(first, n));
         pass::found(first, w)
     }
 
     // The number of a call that names a driver; own is what the call is tested by. Where it is 0 the driver is one of the sixteen.
-    fn number(self, driver: usize, own: Own) -> u8
+    fn number(self, driver: usize, own: u32) -> u8
         ensures { λ r. ⌜ (r ≡ callRefusal (records self) driver own) × (r ≡ 0 → (1 ≤ driver) × (driver ≤ 16)) ⌝ }
     {
         let n = self.length();
         let first = pass::by_arguments(n, driver);
-        let w = self.seen(driver, pass::to_pass(first, n));
-        pass::found_named(first, w, own)
+        if first != 0 {
+            return first;
+        }
+        let w = self.seen(n);
+        let d = self.named(driver);
+        pass::found_by(w, d.family, own)
     }
 
     // The record of the driver named.

@@ -29,7 +29,8 @@ use Rattle.lent.proofs.Params.{Sent, Kind, held, Seen, seens, Args, sents, mach
 use Rattle.lent.proofs.row_refusal.Symbol as number-def
 use Rattle.shapes.proofs.BusTypes.{busState, strapsGiven, byteAnswer}
 use Rattle.shapes.proofs.Rows.{Known, ensuring, Closes, on-mut, stays-mut, proves-mut, row-known}
-use Rattle.shapes.proofs.Steps.{not-zero, ref, RowRefusal, rows-mut}
+use Rattle.shapes.proofs.Steps.{ref, RowRefusal, rows-mut}
+use Rattle.lent.proofs.Numbers.{not-zero}
 
 -- the locals after the parameters: n, early and part, and those of `Replaces.antt`
 abbrev locals : List Local

@@ -15,22 +15,22 @@ use Rattle.calls.specs.Served.{stepped}
 use Rattle.calls.specs.Outcome.{outcome}
 use Rattle.pass.specs.Own.{stepOwn}
 use Rattle.pass.specs.Found.{callRefusal}
-use Rattle.pass.specs.declared.Own.{Own}
 use Rattle.pass.proofs.FoundLaws.{in-range, give-served, give-refused}
 use mathlib.Core.Option.{some}
-use Rattle.lent.proofs.Records.{size, byte, ownTests, device, device-sized, recordBytes}
+use Rattle.lent.proofs.Records.{size, byte, word, device, device-sized, recordBytes}
 use Rattle.lent.proofs.Locals.{span, values, envOf, starts, leaves, var, sets, lands-in, count, target}
 use Rattle.shapes.proofs.Handed.{starts-first, leaves-first, hands, hands-back, calls-on}
 use Rattle.shapes.proofs.Replaces.{no-more as at-end, store-locals, sliceOf, replacing, replaces}
 use Rattle.lent.proofs.Walk.{Walk, lands-known, joins}
 use Rattle.lent.proofs.Params.{Sent, Kind, held, Seen, seens, Args, sents, machine, Good, ends, fits, Had, has, locals-of, operands, after, env, spot-after, alloc-all, pass-all, FnOf}
-use Rattle.shapes.proofs.Rows.{Known, ensuring, Closes, on-mut, stays-mut, proves-mut, refusal-known}
-use Rattle.shapes.proofs.Steps.{not-zero, ref, CallRefusal, numbers-mut}
+use Rattle.shapes.proofs.Rows.{Known, ensuring, Closes, on-mut, stays-mut, proves-mut}
+use Rattle.shapes.proofs.Steps.{ref, CallRefusal, numbers-mut}
+use Rattle.lent.proofs.Numbers.{not-zero}
 use Rattle.lent.proofs.call_refusal.Symbol as number-def
 
 -- the locals after the parameters: own and number, and those of `Replaces.antt`
 abbrev locals : List Local
-locals = values (ownTests .ty ∷ byte .ty ∷ []) ++ store-locals device
+locals = values (word .ty ∷ byte .ty ∷ []) ++ store-locals device
 
 -- the result, the chain and the driver
 abbrev first : List Local
@@ -63,7 +63,7 @@ module _ (own work : Name) (k : ℕ) (Ks : List (Kind k)) (step : Seen Ks → St
   abbrev pub clauses : {M : Type 1} (𝓤 : URA M) → Clauses 𝓤 ended
   clauses 𝓤 = ensuring 𝓤 ended (λ κs a r e. outcome (give (a .1 .0) (step (seens (κs .1) Ks (sents κs Ks (a .1 .1))))) (now (a .0)) ≡ record { number = r; records = now (e .0); back = [] })
 
-  abbrev ψ-own : Seen Ks → Own → Type 0
+  abbrev ψ-own : Seen Ks → ℕ → Type 0
   ψ-own p r = r ≡ stepOwn (step p)
 
   abbrev ψ-work : Seen (held device ∷ Ks) → Device → Type 0
@@ -86,7 +86,7 @@ module _ (own work : Name) (k : ℕ) (Ks : List (Kind k)) (step : Seen Ks → St
     abbrev Left : Type 0
     Left = (zs : List Device) × ((outcome (give j st) ys ≡ record { number = nr; records = zs; back = [] }) × (length zs ≡ length ys))
 
-    walk : (𝓣 : Tables 𝓤 H) → Triple 𝓤 (𝓣 .C number-def.name) (CallRefusal 𝓤 H A mem run) → Triple 𝓤 (𝓣 .C own) (FnOf Ks (held ownTests) ψ-own 𝓤 H A) → Triple 𝓤 (𝓣 .C work) (FnOf (held device ∷ Ks) (held device) ψ-work 𝓤 H A) → Room (device .row) (length ys) → Good κs (held size ∷ Ks) (j, xs) → Walk 𝓤 H A ended (stays-mut (held size ∷ Ks) (plain (λ _. byte .row))) (clauses 𝓤) 𝓣 gives y tt
+    walk : (𝓣 : Tables 𝓤 H) → Triple 𝓤 (𝓣 .C number-def.name) (CallRefusal 𝓤 H A) → Triple 𝓤 (𝓣 .C own) (FnOf Ks (held word) ψ-own 𝓤 H A) → Triple 𝓤 (𝓣 .C work) (FnOf (held device ∷ Ks) (held device) ψ-work 𝓤 H A) → Room (device .row) (length ys) → Good κs (held size ∷ Ks) (j, xs) → Walk 𝓤 H A ended (stays-mut (held size ∷ Ks) (plain (λ _. byte .row))) (clauses 𝓤) 𝓣 gives y tt
     walk 𝓣 known-number known-own known-work room is =
         qed W ((‵ (flft (κs .0) (qs .0)) ⊛ raw (toks 𝓤 A k (κs .1) (qs .1))) ∷ ‵ (owns (typesAt (ended .signature .params) κs) (y .3) (y .4)) ∷ []) ∵ enter ! (𝓣 .C) (𝓣 .Λ) gives _ _ $
         starts-first W first ! (λ l D dies. alloc-all ! Ks (λ bs. starts W locals ! (λ m D′ dies′. params1 ! $
@@ -95,10 +95,10 @@ module _ (own work : Name) (k : ℕ) (Ks : List (Kind k)) (step : Seen Ks → St
         pass1 ! (init ! 14 refl (tt, (tt, (record { fits = room .0 }, tt)))) $ pass1 ! (init ! 15 refl (size .typed 𝓤 H A W j (is .0))) $ move ! (12 ∷ []) $ pass-all ! κs Ks bs xs (is .1) E $
         move ! (18 ∷ 17 ∷ []) $ fsplit ! $ move ! (1 ∷ []) $ fsplit ! $ drop ! $ move ! (2 ∷ []) $ split ! $ move ! (2 ∷ 1 ∷ 4 ∷ []) $ hands κs qs Ks bs ! xs $
         -- [what is handed on; the token; the slice; own, at 3; number; the nine others, from 5; ..; _0 at 15; _1; _2; ..]
-        calls-on κs qs Ks bs ! xs′ (fmOf 𝓤 H (W .laws) 𝓣) (λ i. suc (suc (suc i))) E (λ i. refl) [] (held ownTests) ψ-own known-own tt tt (λ i j o os. os) (λ w r e. lands-known ! ownTests (stepOwn st) w r e (λ is-own wt-own. lands-in ! 3 (spot 0) refl wt-own $
+        calls-on κs qs Ks bs ! xs′ (fmOf 𝓤 H (W .laws) 𝓣) (λ i. suc (suc (suc i))) E (λ i. refl) [] (held word) ψ-own known-own tt tt (λ i j o os. os) (λ w r e. lands-known ! word (stepOwn st) w r e (λ is-own wt-own. lands-in ! 3 (spot 0) refl wt-own $
         -- [the slice; its token; what is handed on; _1; the nine others, from 4; own, at 13; number; ..; _0 at 16; _2; ..]
         move ! (2 ∷ 1 ∷ 0 ∷ 16 ∷ span 5 9) $ sets ! (target ! 3 refl refl) 6 (spot 4) refl (tt, tt) $ sets ! (agg ! (and-then ! (var ! 6 (spot 4) refl) (and-then ! (count ! 3 refl refl) (no-more !)))) 7 (spot 5) refl (tt, (tt, (record { fits = room .0 }, tt))) $
-        numbers-mut ! (fmOf 𝓤 H (W .laws) 𝓣) mem run known-number (κs .0) (qs .0) b o γ ys room j (stepOwn st) (is .0) is-own (λ i s r. and-then ! (var ! 8 (spot 5) refl) (and-then ! (var ! 18 refl refl) (and-then ! (var ! 14 (spot 0) refl) (no-more !)))) (λ is-nr wt-nr. lands-in ! 14 (spot 1) refl wt-nr $
+        numbers-mut ! (fmOf 𝓤 H (W .laws) 𝓣) known-number (κs .0) (qs .0) b o γ ys room j (stepOwn st) (is .0) is-own (λ i s r. and-then ! (var ! 8 (spot 5) refl) (and-then ! (var ! 18 refl refl) (and-then ! (var ! 14 (spot 0) refl) (no-more !)))) (λ is-nr wt-nr. lands-in ! 14 (spot 1) refl wt-nr $
         sets ! (bin ! (var ! 14 (spot 1) refl) (lit ! tt) tt) 8 (spot 6) refl (tt, tt) $
         fsplit ! $ pureL ! (at-slice (device .row) (ref γ b o ys) (slice-vals (ref γ b o ys))) (λ _. fsplit ! $ opens-slice ! tt (device .row) ys b o $ move ! (0 ∷ 4 ∷ 5 ∷ span 6 9) $
         -- [the records; what is handed on; _1; the nine others, from 3; the open borrow; obs; auth; own, at 15; number; ..; _0 at 18; _2; ..]
@@ -117,7 +117,7 @@ module _ (own work : Name) (k : ℕ) (Ks : List (Kind k)) (step : Seen Ks → St
         use0 W (‵ (Had κs (held size ∷ Ks) (j, xs))) (has 𝓤 H A W κs (held size ∷ Ks) (j, xs)) $ move ! (1 ∷ 0 ∷ []) $ fjoin ! $ frame ! $
         owned ! (byte .row) (Is (byte .row)) (byte .makes 𝓤 H A W) nr _ is-nr $ done !))))))))
 
-  pub gives-spec : {M : Type 1} (γ : routine.Env) (name : Name) → Closes M γ name gives → γ number-def.name ≡ number-def.routine → Known M (γ own) (FnOf Ks (held ownTests) ψ-own) → Known M (γ work) (FnOf (held device ∷ Ks) (held device) ψ-work) → Known M (γ name) (λ 𝓤 H A. tripleOf 𝓤 H A (ended .signature) (closing 𝓤 H A ended (clauses 𝓤)))
+  pub gives-spec : {M : Type 1} (γ : routine.Env) (name : Name) → Closes M γ name gives → Known M (γ number-def.name) (λ 𝓤 H A. CallRefusal 𝓤 H A) → Known M (γ own) (FnOf Ks (held word) ψ-own) → Known M (γ work) (FnOf (held device ∷ Ks) (held device) ψ-work) → Known M (γ name) (λ 𝓤 H A. tripleOf 𝓤 H A (ended .signature) (closing 𝓤 H A ended (clauses 𝓤)))
   unfolding tablesOf
-  gives-spec γ name closed number known-own known-work 𝓤 H 𝓜 𝓖 𝓡 =
-      proves-mut (held size ∷ Ks) (plain (λ _. byte .row)) 𝓤 H 𝓜 𝓖 𝓡 γ name gives (closed 𝓤 H 𝓜 𝓡) (clauses 𝓤) (λ κs qs b o δ ys a g. walk 𝓤 H (𝓖 .A) (givenOf 𝓤 H 𝓜 𝓖) (𝓜 .mem) (𝓡 .run) κs qs b o δ ys (a .0) (a .1) (tablesOf 𝓤 H 𝓜 (tables 𝓤 H 𝓜 𝓡 γ)) (refusal-known 𝓤 H 𝓜 𝓖 𝓡 γ number) (known-own 𝓤 H 𝓜 𝓖 𝓡) (known-work 𝓤 H 𝓜 𝓖 𝓡))
+  gives-spec γ name closed known-number known-own known-work 𝓤 H 𝓜 𝓖 𝓡 =
+      proves-mut (held size ∷ Ks) (plain (λ _. byte .row)) 𝓤 H 𝓜 𝓖 𝓡 γ name gives (closed 𝓤 H 𝓜 𝓡) (clauses 𝓤) (λ κs qs b o δ ys a g. walk 𝓤 H (𝓖 .A) (givenOf 𝓤 H 𝓜 𝓖) (𝓜 .mem) (𝓡 .run) κs qs b o δ ys (a .0) (a .1) (tablesOf 𝓤 H 𝓜 (tables 𝓤 H 𝓜 𝓡 γ)) (known-number 𝓤 H 𝓜 𝓖 𝓡) (known-own 𝓤 H 𝓜 𝓖 𝓡) (known-work 𝓤 H 𝓜 𝓖 𝓡))

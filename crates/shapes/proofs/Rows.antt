@@ -2,7 +2,7 @@
 --     on-shared, on-mut        its signature, for a `&[Device]` and for a `&mut [Device]`, and what is had of the parameters at exit: `stays-shared`, `stays-mut`
 --     ensuring         a contract that asks nothing and ensures a fact
 --     proves-shared, proves-mut        from a walk of its MIR to its contract
---     Known, Closes    that a routine meets a contract; and that a name stands for a function's code.        refusal-known    that `call_refusal` meets its contract, where a name stands for it
+--     Known, Closes    that a routine meets a contract; and that a name stands for a function's code.        row-known    that `row_refusal` meets its contract, where a name stands for it
 -- Assumes nothing.
 use Rattle.ground.proofs.Names.{_≡_, refl, ℕ, suc, List, [], _∷_, length}
 use prog.Routine as routine
@@ -12,9 +12,8 @@ use Rattle.device.specs.declared.Device.{Device}
 use Rattle.lent.proofs.Records.{device}
 use Rattle.lent.proofs.Walk.{Walk, proves}
 use Rattle.lent.proofs.Params.{Kind, outers, Args, spelled, told, machine, Good, stays, goes}
-use Rattle.lent.proofs.call_refusal as call-refusal
 use Rattle.lent.proofs.row_refusal as row-refusal
-use Rattle.shapes.proofs.Steps.{ref, CallRefusal, RowRefusal}
+use Rattle.shapes.proofs.Steps.{ref, RowRefusal}
 
 module _ (M : Type 1) where
   abbrev pub Known : Routine → ((𝓤 : URA M) (H : Heap 𝓤) → Atoms 𝓤 → Contract 𝓤) → Type 2
@@ -49,9 +48,6 @@ module _ {k : ℕ} (Ks : List (Kind k)) (R : Slot (suc k)) where
         → Walk 𝓤 H (𝓖 .A) on-mut stays-mut c (tablesOf 𝓤 H 𝓜 (tables 𝓤 H 𝓜 𝓡 γ)) fn (κs, qs, tt, (ref δ b o ys, a), (slice-vals (ref δ b o ys), machine κs Ks a)) g) → Triple 𝓤 (𝓡 .run (γ name)) (tripleOf 𝓤 H (𝓖 .A) (on-mut .signature) (closing 𝓤 H (𝓖 .A) on-mut c))
     proves-mut c walk = proves 𝓤 H 𝓜 𝓖 𝓡 γ on-mut stays-mut c (goes-slice 𝓤 H (𝓖 .A) (givenOf 𝓤 H 𝓜 𝓖) (suc k) 0 tt (plain (λ _. device .row)), goes 𝓤 H (𝓖 .A) (givenOf 𝓤 H 𝓜 𝓖) Ks)
         name fn closed (λ κs. (slice-vals, spelled κs Ks)) (λ κs. (mut-slice-tells (named 0) (κs .0) (device .row), told κs Ks)) (λ κs qs bounds a g are. via 𝓤 _ (fst∗ 𝓤 _ (c κs a .requires g)) (walk κs qs (a .0 .ptr .0) (a .0 .ptr .1) (a .0 .name) (a .0 .now) (a .1) g (are .0 .0 .1) (are .1)))
-
-pub refusal-known : {M : Type 1} (𝓤 : URA M) (H : Heap 𝓤) (𝓜 : Model 𝓤 H) (𝓖 : GhostRules 𝓤 H) (𝓡 : Running 𝓤 H 𝓜) (γ : routine.Env) → γ call-refusal.Symbol.name ≡ call-refusal.Symbol.routine → Triple 𝓤 (tables 𝓤 H 𝓜 𝓡 γ .C call-refusal.Symbol.name) (CallRefusal 𝓤 H (𝓖 .A) (𝓜 .mem) (𝓡 .run))
-refusal-known 𝓤 H 𝓜 𝓖 𝓡 γ e = cited 𝓤 H _ 𝓜 𝓡 γ call-refusal.Symbol.name call-refusal.Symbol.routine e (call-refusal.Met.met 𝓤 H 𝓜 𝓖 𝓡)
 
 pub row-known : {M : Type 1} (𝓤 : URA M) (H : Heap 𝓤) (𝓜 : Model 𝓤 H) (𝓖 : GhostRules 𝓤 H) (𝓡 : Running 𝓤 H 𝓜) (γ : routine.Env) → γ row-refusal.Symbol.name ≡ row-refusal.Symbol.routine → Triple 𝓤 (tables 𝓤 H 𝓜 𝓡 γ .C row-refusal.Symbol.name) (RowRefusal 𝓤 H (𝓖 .A) (𝓜 .mem) (𝓡 .run))
 row-known 𝓤 H 𝓜 𝓖 𝓡 γ e = cited 𝓤 H _ 𝓜 𝓡 γ row-refusal.Symbol.name row-refusal.Symbol.routine e (row-refusal.Met.met 𝓤 H 𝓜 𝓖 𝓡)

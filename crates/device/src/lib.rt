@@ -2,7 +2,7 @@
 ghost use mathlib.Core.Path.{_≡_};
 ghost use Rattle.ground.specs.Choice.{if, bit};
 ghost use Rattle.words.specs.declared.Word.the-variants.{Write, Read};
-ghost use Rattle.device.specs.Record.{withRegisters, withPins, withShift, withFitted, withMark, withCommand, withPorts};
+ghost use Rattle.device.specs.Record.{withRegisters, withShift, withFitted, withMark, withCommand, withPorts};
 ghost use Rattle.device.specs.PowerUp.{powerUp, powerUp6957};
 ghost use Rattle.device.specs.Sound.{soundOf};
 ghost use Rattle.device.specs.Taken.{answerWord, obeyed, taken};
@@ -216,24 +216,18 @@ impl Device {
         self.with_registers(registers)
     }
 
-    // Pin levels given to a driver of the old family.
-    fn old_with_pins(self, levels: u32) -> Device
-        ensures { λ r. ⌜ r ≡ withPins self levels ⌝ }
-    {
-        let mut registers = self.registers;
-        registers.pins = levels;
-        self.with_registers(registers)
-    }
-
-    // And to one of either.
-    pub fn with_pins(self, levels: u32) -> Device
+    // Pin levels given: 28 of a MAX6957, else five.
+    pub fn with_pins(mut self, levels: u32) -> Device
         ensures { λ r. ⌜ r ≡ pinned self levels ⌝ }
     {
         if self.family == 1 {
             let old = self.ports;
-            return self.with_ports(old.pinned(levels));
+            let new = old.pinned(levels);
+            self.ports = new;
+            return self;
         }
-        self.old_with_pins(levels)
+        self.registers.pins = levels;
+        self
     }
 
     // Whether the interrupt is raised.

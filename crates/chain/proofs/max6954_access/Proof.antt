@@ -20,7 +20,8 @@ use Rattle.lent.proofs.Records.{size, byte, half, device}
 use Rattle.lent.proofs.Walk.{Walk, LentShared, lends-shared, shared-back, calls-value, calls-fn, lands-known, forks, proves}
 use Rattle.lent.proofs.Locals.{span, values, starts, leaves, var, sets, lands-in, lands-over, count, target}
 use Rattle.lent.proofs.Arrays.{S, array-opens, array-closes, row-lent, row-back, gives-up}
-use Rattle.shapes.proofs.Steps.{not-zero, is-zero, unit-typed}
+use Rattle.lent.proofs.Numbers.{not-zero, is-zero}
+use Rattle.shapes.proofs.Steps.{unit-typed}
 use Rattle.lent.proofs.shift_words as looked
 use Rattle.lent.proofs.take_words as taking
 use Rattle.chain.proofs.max6954_access as access

@@ -4,7 +4,7 @@ use Rattle.calls.specs.Calls.{clocks}
 use Rattle.lent.proofs.call_refusal as number
 use Rattle.pass.proofs.clocks_refusal as own
 use Rattle.device.proofs.Device.clocked as work
-use Rattle.shapes.proofs.Names.{refl, [], _∷_, word, held, gives-spec}
+use Rattle.shapes.proofs.Names.{[], _∷_, word, held, gives-spec}
 use Rattle.chain.proofs.max6954_add_clocks as this
 
 pub max6954-add-clocks-spec : {M : Type 1} → this.Statement.statement M

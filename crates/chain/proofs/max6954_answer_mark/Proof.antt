@@ -6,7 +6,7 @@ use Rattle.lent.proofs.call_refusal as number
 use Rattle.pass.proofs.mark_refusal as own
 use Rattle.answers.proofs.mark_refused as refused
 use Rattle.answers.proofs.mark as work
-use Rattle.shapes.proofs.Names.{_≡_, refl, [], _∷_, held, asks-spec}
+use Rattle.shapes.proofs.Names.{_≡_, [], _∷_, held, asks-spec}
 use Rattle.chain.proofs.max6954_answer_mark as this
 
 pub max6954-answer-mark-spec : {M : Type 1} → this.Statement.statement M

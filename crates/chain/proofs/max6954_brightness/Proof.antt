@@ -7,7 +7,7 @@ use Rattle.lent.proofs.call_refusal as number
 use Rattle.pass.proofs.brightness_refusal as own
 use Rattle.answers.proofs.brightness_refused as refused
 use Rattle.brightness.proofs.brightness as work
-use Rattle.shapes.proofs.Names.{_≡_, refl, [], _∷_, size, held, asks-spec}
+use Rattle.shapes.proofs.Names.{_≡_, [], _∷_, size, held, asks-spec}
 use Rattle.chain.proofs.max6954_brightness as this
 
 pub max6954-brightness-spec : {M : Type 1} → this.Statement.statement M

@@ -7,7 +7,7 @@ use Rattle.lent.proofs.call_refusal as number
 use Rattle.pass.proofs.interrupt_refusal as own
 use Rattle.answers.proofs.interrupt_refused as refused
 use Rattle.answers.proofs.interrupt as work
-use Rattle.shapes.proofs.Names.{_≡_, refl, [], _∷_, held, asks-spec}
+use Rattle.shapes.proofs.Names.{_≡_, [], _∷_, held, asks-spec}
 use Rattle.chain.proofs.max6954_interrupt as this
 
 pub max6954-interrupt-spec : {M : Type 1} → this.Statement.statement M

@@ -7,7 +7,7 @@ use Rattle.lent.proofs.call_refusal as number
 use Rattle.pass.proofs.look_back_refusal as own
 use Rattle.answers.proofs.look_back_refused as refused
 use Rattle.stopping_word.proofs.look_back as work
-use Rattle.shapes.proofs.Names.{_≡_, refl, [], _∷_, w16, size, held, lent, asks-spec}
+use Rattle.shapes.proofs.Names.{_≡_, [], _∷_, w16, size, held, lent, asks-spec}
 use Rattle.chain.proofs.max6954_look_back as this
 
 pub max6954-look-back-spec : {M : Type 1} → this.Statement.statement M

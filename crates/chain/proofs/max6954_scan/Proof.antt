@@ -4,7 +4,7 @@ use Rattle.calls.specs.Calls.{scan}
 use Rattle.lent.proofs.call_refusal as number
 use Rattle.pass.proofs.scan_refusal as own
 use Rattle.device.proofs.Device.scanned as work
-use Rattle.shapes.proofs.Names.{refl, [], _∷_, byte, held, gives-spec}
+use Rattle.shapes.proofs.Names.{[], _∷_, byte, held, gives-spec}
 use Rattle.chain.proofs.max6954_scan as this
 
 pub max6954-scan-spec : {M : Type 1} → this.Statement.statement M

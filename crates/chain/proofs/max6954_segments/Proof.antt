@@ -9,7 +9,7 @@ use Rattle.lent.proofs.call_refusal as number
 use Rattle.pass.proofs.segments_refusal as own
 use Rattle.answers.proofs.segments_refused as refused
 use Rattle.shown_pins.proofs.segments as work
-use Rattle.shapes.proofs.Names.{_≡_, refl, [], _∷_, w16, size, held, lent, asks-spec}
+use Rattle.shapes.proofs.Names.{_≡_, [], _∷_, w16, size, held, lent, asks-spec}
 use Rattle.chain.proofs.max6954_segments as this
 
 pub max6954-segments-spec : {M : Type 1} → this.Statement.statement M

@@ -4,7 +4,7 @@ use Rattle.calls.specs.Calls.{levels}
 use Rattle.lent.proofs.call_refusal as number
 use Rattle.pass.proofs.levels_refusal as own
 use Rattle.device.proofs.Device.with_pins as work
-use Rattle.shapes.proofs.Names.{refl, [], _∷_, word, held, gives-spec}
+use Rattle.shapes.proofs.Names.{[], _∷_, word, held, gives-spec}
 use Rattle.chain.proofs.max6954_set_pins as this
 
 pub max6954-set-pins-spec : {M : Type 1} → this.Statement.statement M

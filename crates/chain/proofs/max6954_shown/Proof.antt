@@ -8,7 +8,7 @@ use Rattle.lent.proofs.call_refusal as number
 use Rattle.pass.proofs.shown_refusal as own
 use Rattle.answers.proofs.shown_refused as refused
 use Rattle.answers.proofs.shown as work
-use Rattle.shapes.proofs.Names.{_≡_, refl, [], _∷_, held, asks-spec}
+use Rattle.shapes.proofs.Names.{_≡_, [], _∷_, held, asks-spec}
 use Rattle.chain.proofs.max6954_shown as this
 
 pub max6954-shown-spec : {M : Type 1} → this.Statement.statement M

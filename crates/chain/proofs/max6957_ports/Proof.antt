@@ -8,7 +8,7 @@ use Rattle.lent.proofs.each_refusal as number
 use Rattle.pass.proofs.ports_refusal as own
 use Rattle.answers.proofs.ports_refused as refused
 use Rattle.answers.proofs.ports as work
-use Rattle.shapes.proofs.Names.{_≡_, refl, [], _∷_, held, asks-spec}
+use Rattle.shapes.proofs.Names.{_≡_, [], _∷_, held, asks-spec}
 use Rattle.chain.proofs.max6957_ports as this
 
 pub max6957-ports-spec : {M : Type 1} → this.Statement.statement M

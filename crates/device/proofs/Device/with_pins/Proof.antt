@@ -5,11 +5,11 @@ use Rattle.device.proofs.Device.with_pins.Tie as tie
 
 returns : tie.Need-returns
 unfolding pinned
-returns c = simp (c .before .pinned .ensures, c .with-ports .ensures) (search tests)
+returns c = simp (c .pinned .ensures) (search tests)
 
 returns-2 : tie.Need-returns-2
 unfolding pinned
-returns-2 c = simp (c .old-with-pins .ensures) (search tests)
+returns-2 c = search tests
 
 pub with-pins-spec : {M : Type 1} → Rattle.device.proofs.Device.with_pins.Statement.statement M
-with-pins-spec = tie.close (tie.spec (λ c κs. search needs) (λ c κs. search needs) returns (λ c κs. search needs) returns-2)
+with-pins-spec = tie.close (tie.spec (λ c κs. search needs) returns returns-2)

@@ -1,5 +1,6 @@
-/* The library beside the hand-tuned double: random calls of every kind, with valid and damaged arguments, on sound and unsound records. Both give
-   the same number and answer and leave the same bytes, in what is lent and beside it. The first difference is printed, and the status is 1. */
+/* The library beside the hand-tuned double: random calls of every kind, with valid and damaged arguments, on sound and unsound records of both
+   families, mixed, and of unknown ones. Both give the same number and answer and leave the same bytes, in what is lent and beside it. The first
+   difference is printed, and the status is 1. */
 #include <stdio.h>
 #include <string.h>
 #include "cases.h"
@@ -7,21 +8,22 @@
 #include "records.h"
 #include "tuned.h"
 
-enum { ROWS = 50000, CALLS_ON_A_ROW = 12, GUARD = 8 };
+enum { ROWS = 50000, CALLS_ON_A_ROW = 12, GUARD = 8, LAST_NUMBER = 14 };
 
 static const struct {
-    const char *name, *numbers;    /* and the numbers that it may give */
+    const char *name, *numbers;    /* and the numbers that it may give, in hex */
 } kinds[KINDS] = {
-    [ACCESS] = { "access", "013457" },
-    [SCAN] = { "scan", "0127" },
-    [SET_PINS] = { "set_pins", "01267" },
-    [ADD_CLOCKS] = { "add_clocks", "0127" },
-    [SEGMENTS] = { "segments", "01267" },
-    [BRIGHTNESS] = { "brightness", "01267" },
-    [SHOWN] = { "shown", "0127" },
-    [INTERRUPT] = { "interrupt", "0127" },
-    [ANSWER_MARK] = { "answer_mark", "0127" },
-    [PLANE] = { "plane", "01267" },
+    [ACCESS] = { "access", "013457E" },
+    [SCAN] = { "scan", "0127E" },
+    [SET_PINS] = { "set_pins", "01267E" },
+    [ADD_CLOCKS] = { "add_clocks", "0127E" },
+    [SEGMENTS] = { "segments", "01267E" },
+    [BRIGHTNESS] = { "brightness", "01267E" },
+    [SHOWN] = { "shown", "0127E" },
+    [INTERRUPT] = { "interrupt", "0127E" },
+    [ANSWER_MARK] = { "answer_mark", "0127E" },
+    [PORTS] = { "ports", "0127E" },
+    [PLANE] = { "plane", "01267E" },
 };
 
 /* The calls of one double. */
@@ -36,16 +38,17 @@ typedef struct {
     __typeof__(&max6954_shown) shown;
     __typeof__(&max6954_interrupt) interrupt;
     __typeof__(&max6954_answer_mark) answer_mark;
+    __typeof__(&max6957_ports) ports;
     __typeof__(&max6954_plane_number) plane_number;
     __typeof__(&max6954_plane_shown) plane_shown;
     __typeof__(&max6954_plane) plane;
 } calls;
 
-#define CALLS(p)                                                                                                                         \
-    p##access, p##scan, p##set_pins, p##add_clocks, p##segments, p##brightness, p##shown, p##interrupt, p##answer_mark, p##plane_number, \
-        p##plane_shown, p##plane
+#define CALLS(p, ports)                                                                                                           \
+    p##access, p##scan, p##set_pins, p##add_clocks, p##segments, p##brightness, p##shown, p##interrupt, p##answer_mark, ports,    \
+        p##plane_number, p##plane_shown, p##plane
 
-static const calls doubles[2] = { { "library", CALLS(max6954_) }, { "tuned  ", CALLS(tuned_) } };
+static const calls doubles[2] = { { "library", CALLS(max6954_, max6957_ports) }, { "tuned  ", CALLS(tuned_, tuned_ports) } };
 
 /* What both are lent to read. */
 static uint8_t sent[MOST_BYTES], planes[2][17];
@@ -60,72 +63,84 @@ typedef struct {
 static lent before, after[2];
 
 typedef struct {
-    uint8_t number, back[19];
+    uint8_t number, back[28];
     const uint8_t *part;
 } reply;
 
-/* A call by one double. What has no length is NULL. */
+/* An answer, whose bytes are its number and then the rest. */
+static reply answered(const void *answer, size_t size)
+{
+    const uint8_t *bytes = answer;
+    reply r = { bytes[0], { 0 }, NULL };
+    memcpy(r.back, bytes + 1, size - 1);
+    return r;
+}
+
+/* A question by one double. What has no length is NULL. */
+static reply asked(const calls *by, const max6954_device *chain, const call *c)
+{
+    const uint16_t *font14 = c->lengths[0] ? fonts[0] : NULL, *font16 = c->lengths[1] ? fonts[1] : NULL;
+    switch (c->kind) {
+    case SEGMENTS: {
+        const max6954_segment_answer a = by->segments(chain, c->n, c->driver, c->place, font14, c->lengths[0], font16, c->lengths[1]);
+        return answered(&a, sizeof a);
+    }
+    case BRIGHTNESS: {
+        const max6954_brightness_answer a = by->brightness(chain, c->n, c->driver, c->place);
+        return answered(&a, sizeof a);
+    }
+    case SHOWN: {
+        const max6954_shown_answer a = by->shown(chain, c->n, c->driver);
+        return answered(&a, sizeof a);
+    }
+    case INTERRUPT: {
+        const max6954_interrupt_answer a = by->interrupt(chain, c->n, c->driver);
+        return answered(&a, sizeof a);
+    }
+    case ANSWER_MARK: {
+        const max6954_mark_answer a = by->answer_mark(chain, c->n, c->driver);
+        return answered(&a, sizeof a);
+    }
+    default: {
+        const max6957_port_answer a = by->ports(chain, c->n, c->driver);
+        return answered(&a, sizeof a);
+    }
+    }
+}
+
+/* The three calls on the plane that is shown. */
+static reply asked_of_plane(const calls *by, const max6954_device *chain, const call *c)
+{
+    const uint8_t *p0 = c->lengths[0] ? planes[0] : NULL, *p1 = c->lengths[1] ? planes[1] : NULL;
+    const max6954_shown_answer a = by->plane_shown(chain, c->n, c->driver, p0, c->lengths[0], p1, c->lengths[1], c->first, c->last);
+    const uint8_t number = by->plane_number(chain, c->n, c->driver, p0, c->lengths[0], p1, c->lengths[1], c->first, c->last);
+    return (reply){ number, { a.plane, a.number }, by->plane(chain, c->n, c->driver, p0, c->lengths[0], p1, c->lengths[1], c->first, c->last) };
+}
+
+/* A call by one double. */
 static reply made(const calls *by, lent *on, const call *c)
 {
     max6954_device *chain = c->n ? on->records + 1 : NULL;
-    const uint8_t *p0 = c->lengths[0] ? planes[0] : NULL, *p1 = c->lengths[1] ? planes[1] : NULL;
-    const uint16_t *font14 = c->lengths[0] ? fonts[0] : NULL, *font16 = c->lengths[1] ? fonts[1] : NULL;
     const uint32_t v = c->value;
     reply r = { 0, { 0 }, NULL };
     switch (c->kind) {
     case ACCESS:
         r.number = by->access(chain, c->n, c->clocks, c->sent ? sent : NULL, c->sent, c->room ? on->room + GUARD : NULL, c->room);
-        break;
+        return r;
     case SCAN:
         r.number = by->scan(chain, c->n, c->driver, (uint8_t)(v >> 24), (uint8_t)(v >> 16), (uint8_t)(v >> 8), (uint8_t)v);
-        break;
+        return r;
     case SET_PINS:
         r.number = by->set_pins(chain, c->n, c->driver, v);
-        break;
+        return r;
     case ADD_CLOCKS:
         r.number = by->add_clocks(chain, c->n, c->driver, v);
-        break;
-    case SEGMENTS: {
-        const max6954_segment_answer a = by->segments(chain, c->n, c->driver, c->place, font14, c->lengths[0], font16, c->lengths[1]);
-        r.number = a.number;
-        memcpy(r.back, a.pins, sizeof a.pins);
-        break;
+        return r;
+    case PLANE:
+        return asked_of_plane(by, chain, c);
+    default:
+        return asked(by, chain, c);
     }
-    case BRIGHTNESS: {
-        const max6954_brightness_answer a = by->brightness(chain, c->n, c->driver, c->place);
-        r.number = a.number;
-        r.back[0] = a.sixteenths;
-        r.back[1] = a.ruler;
-        break;
-    }
-    case SHOWN: {
-        const max6954_shown_answer a = by->shown(chain, c->n, c->driver);
-        r.number = a.number;
-        r.back[0] = a.plane;
-        break;
-    }
-    case INTERRUPT: {
-        const max6954_interrupt_answer a = by->interrupt(chain, c->n, c->driver);
-        r.number = a.number;
-        r.back[0] = a.raised;
-        break;
-    }
-    case ANSWER_MARK: {
-        const max6954_mark_answer a = by->answer_mark(chain, c->n, c->driver);
-        r.number = a.number;
-        r.back[0] = a.mark;
-        break;
-    }
-    case PLANE: {
-        const max6954_shown_answer a = by->plane_shown(chain, c->n, c->driver, p0, c->lengths[0], p1, c->lengths[1], c->first, c->last);
-        r.number = by->plane_number(chain, c->n, c->driver, p0, c->lengths[0], p1, c->lengths[1], c->first, c->last);
-        r.back[0] = a.plane;
-        r.back[1] = a.number;
-        r.part = by->plane(chain, c->n, c->driver, p0, c->lengths[0], p1, c->lengths[1], c->first, c->last);
-        break;
-    }
-    }
-    return r;
 }
 
 static int same_record(size_t i)
@@ -190,12 +205,12 @@ static size_t fresh_row(void)
 }
 
 /* Whether the doubles are alike in some calls on a row; the numbers given are counted. */
-static int row_is_alike(unsigned long given[KINDS][8])
+static int row_is_alike(unsigned long given[KINDS][LAST_NUMBER + 1])
 {
     const size_t n = fresh_row();
     for (int k = 0; k < CALLS_ON_A_ROW; k++) {
-        const call c = some_call(n);
-        fill(sent, c.sent);
+        const call c = some_call(after[0].records + 1, n);
+        some_words(sent, c.sent);
         before = after[0];
         const reply r[2] = { made(&doubles[0], &after[0], &c), made(&doubles[1], &after[1], &c) };
         if (!same(r, n)) {
@@ -203,17 +218,16 @@ static int row_is_alike(unsigned long given[KINDS][8])
             print_results(&c, r);
             return 0;
         }
-        given[c.kind][r[0].number % 8]++;
+        given[c.kind][r[0].number % (LAST_NUMBER + 1)]++;
     }
     return 1;
 }
 
-static int power_up_is_alike(void)
+static int power_up_is_alike(const char *name, max6954_device ours, max6954_device tuned)
 {
-    const max6954_device ours = max6954_power_up(), tuned = tuned_power_up();
     const int alike = same_fields(&ours, &tuned);
     if (!alike) {
-        printf("DIFFERENCE: power_up\n");
+        printf("DIFFERENCE: %s\n", name);
         print_bytes(doubles[0].name, &ours, sizeof ours);
         print_bytes(doubles[1].name, &tuned, sizeof tuned);
     }
@@ -221,13 +235,13 @@ static int power_up_is_alike(void)
 }
 
 /* Whether each kind of call has given each number that it may give. */
-static int all_given(unsigned long given[KINDS][8])
+static int all_given(unsigned long given[KINDS][LAST_NUMBER + 1])
 {
     int all = 1;
     for (int kind = 0; kind < KINDS; kind++)
         for (const char *number = kinds[kind].numbers; *number; number++)
-            if (given[kind][*number - '0'] == 0) {
-                printf("%s never gave %c\n", kinds[kind].name, *number);
+            if (given[kind][*number == 'E' ? 14 : *number - '0'] == 0) {
+                printf("%s never gave %c in hex\n", kinds[kind].name, *number);
                 all = 0;
             }
     return all;
@@ -235,9 +249,10 @@ static int all_given(unsigned long given[KINDS][8])
 
 int main(void)
 {
-    static unsigned long given[KINDS][8];
+    static unsigned long given[KINDS][LAST_NUMBER + 1];
     unsigned long served = 0;
-    int alike = power_up_is_alike();
+    int alike = power_up_is_alike("max6954_power_up", max6954_power_up(), tuned_power_up());
+    alike = alike && power_up_is_alike("max6957_power_up", max6957_power_up(), tuned_power_up_6957());
     for (int row = 0; alike && row < ROWS; row++)
         alike = row_is_alike(given);
     if (!alike || !all_given(given))

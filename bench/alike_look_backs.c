@@ -6,7 +6,7 @@
 #include "plain.h"
 #include "random.h"
 
-enum { LISTS = 200000, MOST_WORDS = 40, LAST_NUMBER = 7 };
+enum { LISTS = 200000, MOST_WORDS = 40, LAST_NUMBER = 14 };
 
 static max6954_device before[1 + MOST_RECORDS + 1], records[1 + MOST_RECORDS + 1];
 static uint16_t words[MOST_WORDS];
@@ -66,7 +66,7 @@ static int look_back_is_alike(unsigned long given[LAST_NUMBER + 1])
 
 int main(void)
 {
-    static const int numbers[] = { 0, 1, 2, 6, 7 };
+    static const int numbers[] = { 0, 1, 2, 6, 7, 14 };
     static unsigned long given[LAST_NUMBER + 1];
     for (int i = 0; i < LISTS; i++)
         if (!look_back_is_alike(given))

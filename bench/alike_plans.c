@@ -6,7 +6,7 @@
 #include "plain.h"
 #include "random.h"
 
-enum { PLANS = 50000, WANTED = MAX6954_WANTED_SIZE, MOST = MAX6954_MOST_ACCESSES, GUARD = 8, LAST_NUMBER = 13 };
+enum { PLANS = 50000, WANTED = MAX6954_WANTED_SIZE, MOST = MAX6954_MOST_ACCESSES, GUARD = 8, LAST_NUMBER = 14 };
 
 static max6954_device before[1 + MOST_RECORDS + 1], records[1 + MOST_RECORDS + 1];
 static uint8_t wanted[(MOST_RECORDS + 1) * WANTED];
@@ -94,7 +94,7 @@ static int plan_is_alike(unsigned long given[LAST_NUMBER + 1])
 
 int main(void)
 {
-    static const int numbers[] = { 0, 1, 7, 12, 13 };
+    static const int numbers[] = { 0, 1, 7, 14, 12, 13 };
     static unsigned long given[LAST_NUMBER + 1];
     for (int i = 0; i < PLANS; i++)
         if (!plan_is_alike(given))

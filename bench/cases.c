@@ -1,3 +1,4 @@
+#include <string.h>
 #include "cases.h"
 #include "random.h"
 
@@ -8,11 +9,12 @@ static uint32_t one_of(const uint32_t *numbers, size_t count)
 
 #define ONE_OF(...) one_of((const uint32_t[]){ __VA_ARGS__ }, sizeof((const uint32_t[]){ __VA_ARGS__ }) / sizeof(uint32_t))
 
-static max6954_device sound(void)
+/* The families of a row, and of records in it. */
+enum { OLD, NEW, MIXED };
+
+static void fit_registers(max6954_device *d)
 {
-    max6954_device d;
-    fill(&d, sizeof d);
-    max6954_registers *r = &d.registers;
+    max6954_registers *r = &d->registers;
     r->controls.global &= 15;
     r->controls.limit = one_in(2) ? 7 : r->controls.limit & 7;
     r->controls.gpio &= 31;
@@ -24,8 +26,50 @@ static max6954_device sound(void)
     r->keys.interrupt &= 1;
     r->pins &= 31;
     r->blink = one_in(2) ? (uint32_t)below(4000000) : ONE_OF(0, 999999, 1000000, 1999999, 2000000, 2999999, 3000000, 3999999);
+    d->command &= 127;
+}
+
+/* What P24 to P30 of a driver read. */
+static uint8_t watched(const max6957_registers *r)
+{
+    uint8_t levels = 0;
+    for (int k = 0; k < 7; k++) {
+        const int input = !r->config.s || (r->pairs[5 + k / 4] >> (2 * (k % 4) + 1) & 1);
+        levels |= (uint8_t)(((input ? r->pins : r->stored) >> (20 + k) & 1) << k);
+    }
+    return levels;
+}
+
+/* Ports of any modes or all of one, watched or not; the snapshot mostly is what they read. */
+static void fit_ports(max6957_registers *r)
+{
+    max6957_transition *t = &r->transition;
+    r->stored &= 0x0FFFFFFF;
+    r->pins &= 0x0FFFFFFF;
+    if (one_in(4))
+        memset(r->pairs, (int)ONE_OF(0x00, 0x55, 0xAA, 0xFF), sizeof r->pairs);
+    r->global &= 15;
+    r->test = one_in(6);
+    r->config.m &= 1;
+    r->config.i &= 1;
+    r->config.s = !one_in(6);
+    t->mask = one_in(2) ? (uint8_t)(1 << below(7)) : t->mask & 127;
+    t->snapshot = one_in(4) ? t->snapshot & 127 : watched(r);
+    t->detecting &= 1;
+    t->interrupt = one_in(4);
+}
+
+/* A sound record. What the other family has in it is any bytes. */
+static max6954_device sound(uint8_t family)
+{
+    max6954_device d;
+    fill(&d, sizeof d);
+    d.family = family;
     d.answer_mark &= 1;
-    d.command &= 127;
+    if (family == OLD)
+        fit_registers(&d);
+    else
+        fit_ports(&d.ports);
     return d;
 }
 
@@ -35,33 +79,81 @@ static uint32_t above(uint32_t most, uint32_t largest)
     return one_in(3) ? most + 1 : one_in(2) ? largest : most + 1 + (uint32_t)below(largest - most);
 }
 
-/* Makes one field not fit, or any bytes of the record. */
-static void spoil(max6954_device *d)
+/* A byte of a record and the most that it may hold. */
+typedef struct {
+    uint8_t *field, most;
+} bound;
+
+static void spoil_byte(const bound *fields, size_t count)
+{
+    const bound b = fields[below(count)];
+    *b.field = (uint8_t)above(b.most, 255);
+}
+
+/* Makes one field of an old driver not fit. */
+static void spoil_registers(max6954_device *d)
 {
     max6954_registers *r = &d->registers;
-    const struct {
-        uint8_t *field, most;
-    } fields[] = {
+    const bound fields[] = {
         { &r->controls.global, 15 }, { &r->controls.limit, 7 }, { &r->controls.gpio, 31 }, { &r->controls.test, 1 }, { &r->config.i, 1 },
         { &r->config.e, 1 },         { &r->config.b, 1 },       { &r->config.s, 1 },       { &r->keys.interrupt, 1 }, { &d->answer_mark, 1 },
         { &d->command, 127 },
     };
-    const size_t count = sizeof fields / sizeof fields[0], k = below(count + 3);
-    if (k < count)
-        *fields[k].field = (uint8_t)above(fields[k].most, 255);
-    else if (k == count)
+    if (one_in(8))
         r->pins = above(31, UINT32_MAX);
-    else if (k == count + 1)
+    else if (one_in(8))
         r->blink = above(3999999, UINT32_MAX);
     else
+        spoil_byte(fields, sizeof fields / sizeof fields[0]);
+}
+
+/* So of a MAX6957. */
+static void spoil_ports(max6954_device *d)
+{
+    max6957_registers *r = &d->ports;
+    max6957_transition *t = &r->transition;
+    const bound fields[] = {
+        { &r->global, 15 }, { &r->test, 1 },       { &r->config.m, 1 },  { &r->config.i, 1 },  { &r->config.s, 1 },
+        { &t->mask, 127 },  { &t->snapshot, 127 }, { &t->detecting, 1 }, { &t->interrupt, 1 }, { &d->answer_mark, 1 },
+    };
+    if (one_in(8))
+        r->stored = above(0x0FFFFFFF, UINT32_MAX);
+    else if (one_in(8))
+        r->pins = above(0x0FFFFFFF, UINT32_MAX);
+    else
+        spoil_byte(fields, sizeof fields / sizeof fields[0]);
+}
+
+/* Makes one field not fit, or any bytes of the record but mostly its family. */
+static void spoil(max6954_device *d)
+{
+    const uint8_t family = d->family;
+    if (one_in(12)) {
         fill(d, sizeof *d);
+        d->family = one_in(3) ? d->family : family;
+    } else if (family == OLD) {
+        spoil_registers(d);
+    } else {
+        spoil_ports(d);
+    }
+}
+
+/* A record of no family, in all else sound or any bytes. */
+static void make_unknown(max6954_device *d)
+{
+    if (one_in(2))
+        fill(d, sizeof *d);
+    d->family = (uint8_t)above(1, 255);
 }
 
 size_t some_row(max6954_device *records)
 {
     const size_t n = one_in(16) ? ONE_OF(0, 17, 18) : one_in(4) ? ONE_OF(1, 16) : 1 + below(16);
+    const uint32_t families = ONE_OF(OLD, OLD, OLD, NEW, MIXED, MIXED);
     for (size_t i = 0; i <= n + 1; i++)
-        records[i] = sound();
+        records[i] = sound((uint8_t)(families == MIXED ? below(2) : families));
+    if (n && one_in(12))
+        make_unknown(&records[1 + below(n)]);
     if (n && one_in(8))
         spoil(&records[1 + below(n)]);
     return n;
@@ -144,7 +236,18 @@ static void some_part(call *c)
     c->lengths[1] = some_length(16);
 }
 
-call some_call(size_t n)
+/* Pin levels, mostly ones that the driver has: for a MAX6957 often its own but for one port. */
+static uint32_t some_levels(const max6954_device *d)
+{
+    const uint32_t any = (uint32_t)random_number();
+    if (d->family == OLD)
+        return (uint32_t)within(32);
+    if (one_in(20))
+        return above(0x0FFFFFFF, UINT32_MAX);
+    return one_in(2) ? (d->ports.pins ^ 1u << below(28)) & 0x0FFFFFFF : any >> 4;
+}
+
+call some_call(const max6954_device *row, size_t n)
 {
     call c = { .kind = one_in(3) ? ACCESS : (int)below(KINDS), .n = n, .driver = within(n ? n : 1) + 1 };
     switch (c.kind) {
@@ -155,7 +258,7 @@ call some_call(size_t n)
         c.value = (uint32_t)random_number();
         break;
     case SET_PINS:
-        c.value = (uint32_t)within(32);
+        c.value = some_levels(row + (c.driver - 1) % (n ? n : 1));
         break;
     case ADD_CLOCKS:
         c.value = one_in(2) ? (uint32_t)random_number() : ONE_OF(0, 1, 999999, 1000000, 2000000, 3999999, 4000000, 4000001, UINT32_MAX);
@@ -173,4 +276,13 @@ call some_call(size_t n)
         break;
     }
     return c;
+}
+
+void some_words(uint8_t *sent, size_t count)
+{
+    static const uint8_t addresses[] = { 0x02, 0x04, 0x04, 0x06, 0x06, 0x07, 0x09, 0x0E, 0x0F, 0x12, 0x1F, 0x38, 0x3E, 0x3F, 0x40, 0x43, 0x52, 0x58, 0x5F };
+    fill(sent, count);
+    for (size_t i = 0; i + 1 < count; i += 2)
+        if (one_in(3))
+            sent[i] = (uint8_t)(addresses[below(sizeof addresses)] | (sent[i] & 0x80));
 }

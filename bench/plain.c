@@ -12,12 +12,34 @@ static int is_sound(const max6954_device *d)
            r->keys.interrupt < 2 && r->pins < 32 && r->blink < CYCLE && d->answer_mark < 2 && d->command < 128;
 }
 
-static int all_sound(const max6954_device *chain, size_t n)
+/* Of a MAX6957. */
+static int ports_sound(const max6954_device *d)
+{
+    const max6957_registers *r = &d->ports;
+    const max6957_transition *t = &r->transition;
+    return r->stored < 1u << 28 && r->pins < 1u << 28 && r->global < 16 && r->test < 2 && r->config.m < 2 && r->config.i < 2 && r->config.s < 2 &&
+           t->mask < 128 && t->snapshot < 128 && t->detecting < 2 && t->interrupt < 2 && d->answer_mark < 2;
+}
+
+/* 7, or 14 where some family is unknown; 0 where neither. */
+static uint8_t refused(const max6954_device *chain, size_t n)
+{
+    uint8_t number = 0;
+    for (size_t i = 0; i < n; i++) {
+        if (chain[i].family > 1)
+            number = 14;
+        else if (!(chain[i].family ? ports_sound : is_sound)(chain + i))
+            return 7;
+    }
+    return number;
+}
+
+static int has_6957(const max6954_device *chain, size_t n)
 {
     for (size_t i = 0; i < n; i++)
-        if (!is_sound(chain + i))
-            return 0;
-    return 1;
+        if (chain[i].family == 1)
+            return 1;
+    return 0;
 }
 
 /* The words that one digit needs, which has a and b and is to have x and y. */
@@ -91,8 +113,9 @@ max6954_plan_answer plain_plan(const max6954_device *chain, size_t n, const uint
     size_t most = 0;
     if (n < 1 || n > DRIVERS)
         return (max6954_plan_answer){ 1, 0 };
-    if (!all_sound(chain, n))
-        return (max6954_plan_answer){ 7, 0 };
+    const uint8_t number = refused(chain, n);
+    if (number || has_6957(chain, n))
+        return (max6954_plan_answer){ number ? number : 14, 0 };
     if (wanted_length != MAX6954_WANTED_SIZE * n)
         return (max6954_plan_answer){ 12, 0 };
     for (size_t i = 0; i < n; i++) {
@@ -116,8 +139,9 @@ max6954_look_back_answer plain_look_back(const max6954_device *chain, size_t n, 
         return (max6954_look_back_answer){ 2, 0 };
     if (plane > 1 || digit >= DIGITS)
         return (max6954_look_back_answer){ 6, 0 };
-    if (!all_sound(chain, n))
-        return (max6954_look_back_answer){ 7, 0 };
+    const uint8_t number = refused(chain, n);
+    if (number || chain[driver - 1].family == 1)
+        return (max6954_look_back_answer){ number ? number : 14, 0 };
     const unsigned own = (plane ? 0x40 : 0x20) + (unsigned)digit, both = 0x60 + (unsigned)digit;
     for (size_t i = length; i > 0; i--) {
         const unsigned word = words[i - 1], high = word >> 8;

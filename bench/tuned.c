@@ -1,5 +1,7 @@
 #include <string.h>
+#include "loads.h"
 #include "tuned.h"
+#include "tuned_ports.h"
 
 #define OFFSET(field) offsetof(max6954_device, field)
 #define CONTROL(field) OFFSET(registers.controls.field)
@@ -10,54 +12,23 @@
 
 _Static_assert(__BYTE_ORDER__ == __ORDER_LITTLE_ENDIAN__, "records are read by words");
 _Static_assert(CONTROL(decode) == 0 && CONTROL(types) == 6 && OFFSET(registers.config.i) == 7 && OFFSET(registers.config.s) == 10, "as in UNSOUND");
-_Static_assert(OFFSET(answer_mark) == OFFSET(shift) + 3 && OFFSET(command) == OFFSET(shift) + 4, "as in UNSOUND_TAIL");
-_Static_assert(sizeof(max6954_device) == OFFSET(shift) + 8, "a record ends with the eight bytes of its tail");
+_Static_assert(OFFSET(answer_mark) == OFFSET(shift) + 3 && OFFSET(command) == OFFSET(shift) + 4 && OFFSET(family) == OFFSET(shift) + 5 &&
+                   OFFSET(ports) == OFFSET(shift) + 8,
+               "as in UNSOUND_TAIL");
 _Static_assert(sizeof(max6954_group) == 4 && KEY(d, mask) == KEY(a, mask) + 12, "a scan takes the groups as four words");
-
-static inline uint64_t load64(const void *from)
-{
-    uint64_t x;
-    memcpy(&x, from, 8);
-    return x;
-}
-
-static inline uint32_t load32(const void *from)
-{
-    uint32_t x;
-    memcpy(&x, from, 4);
-    return x;
-}
-
-static inline uint16_t load16(const void *from)
-{
-    uint16_t x;
-    memcpy(&x, from, 2);
-    return x;
-}
-
-static inline void store64(void *to, uint64_t x)
-{
-    memcpy(to, &x, 8);
-}
-
-static inline void store32(void *to, uint32_t x)
-{
-    memcpy(to, &x, 4);
-}
-
-static inline void store16(void *to, uint16_t x)
-{
-    memcpy(to, &x, 2);
-}
 
 /* What is 0 in a sound record: of decode, global, limit, gpio, ports, test, types and i, and then of e, b and s. */
 #define UNSOUND (0xF0ull << 8 | 0xF8ull << 16 | 0xE0ull << 24 | 0xFEull << 40 | 0xFEull << 56)
 #define UNSOUND_CONFIG 0x00FEFEFEu
 
-/* So of the shift word, fitted, answer mark and command address, and of the padding. */
-#define UNSOUND_TAIL (0xFEull << 24 | 0x80ull << 32)
+/* So of the shift word, fitted, answer mark, command address and family, and of the padding. A MAX6957 has no command address. */
+#define UNSOUND_TAIL (0xFEull << 24 | 0x80ull << 32 | 0xFFull << 40)
+#define UNSOUND_PORTS_TAIL (0xFEull << 24 | 0xFFull << 40)
 
 #define CYCLE 4000000u
+
+/* The families; and which of them lacks a call. */
+enum { OLD, NEW, NEITHER };
 
 /* The fields that have a bound, of every record seen. */
 typedef struct {
@@ -78,14 +49,69 @@ static inline void see(bounds *seen, const max6954_device *d)
     seen->blink |= count | (CYCLE - 1 - count);    /* the top bit where the count isn't below the cycle */
 }
 
+/* Whether some record seen is of another family or isn't sound. */
 static inline int unsound(const bounds *seen)
 {
     return ((seen->controls & UNSOUND) | (seen->tail & UNSOUND_TAIL) | (seen->config & UNSOUND_CONFIG) | (seen->interrupt & ~1u) |
             (seen->pins & ~31u) | seen->blink >> 31) != 0;
 }
 
-/* The number of a call that names a driver; some value of it gives 6 or not. */
-static inline uint8_t number_of(const max6954_device *chain, size_t n, size_t driver, int value)
+/* The same of records of a MAX6957. */
+typedef struct {
+    uint64_t levels, flags, tail;
+    uint32_t global;
+} port_bounds;
+
+static inline void see_ports(port_bounds *seen, const max6954_device *d)
+{
+    seen->levels |= load64(&d->ports.stored);
+    seen->flags |= load64(&d->ports.test);
+    seen->global |= d->ports.global;
+    seen->tail |= load64(&d->shift) ^ (uint64_t)NEW << 40;
+}
+
+static inline int unsound_ports(const port_bounds *seen)
+{
+    return ((seen->levels & UNSOUND_LEVELS) | (seen->flags & UNSOUND_FLAGS) | (seen->tail & UNSOUND_PORTS_TAIL) |
+            (seen->global & UNSOUND_GLOBAL)) != 0;
+}
+
+/* 7, 14 or 0 by the records of a row of any families. */
+static __attribute__((noinline)) uint8_t number_by_record(const max6954_device *chain, size_t n)
+{
+    bounds seen = { 0 };
+    port_bounds ports = { 0 };
+    int known = 1;
+    for (size_t i = 0; i < n; i++) {
+        if (chain[i].family == OLD)
+            see(&seen, chain + i);
+        else if (chain[i].family == NEW)
+            see_ports(&ports, chain + i);
+        else
+            known = 0;
+    }
+    return unsound(&seen) || unsound_ports(&ports) ? 7 : known ? 0 : 14;
+}
+
+/* Whether all are sound and of the one family or the other. */
+static inline int all_old(const max6954_device *chain, size_t n)
+{
+    bounds seen = { 0 };
+    for (size_t i = 0; i < n; i++)
+        see(&seen, chain + i);
+    return !unsound(&seen);
+}
+
+static inline int all_new(const max6954_device *chain, size_t n)
+{
+    port_bounds seen = { 0 };
+    for (size_t i = 0; i < n; i++)
+        see_ports(&seen, chain + i);
+    return !unsound_ports(&seen);
+}
+
+/* The number of a call that names a driver; some value of it gives 6 or not, and a family may lack it. Rows of one family are passed over once. */
+static inline uint8_t number_of(const max6954_device *chain, size_t n, size_t driver, int value, int lacks)
 {
     if (n - 1 >= 16)
         return 1;
@@ -93,10 +119,10 @@ static inline uint8_t number_of(const max6954_device *chain, size_t n, size_t dr
         return 2;
     if (value)
         return 6;
-    bounds seen = { 0 };
-    for (size_t i = 0; i < n; i++)
-        see(&seen, chain + i);
-    return unsound(&seen) ? 7 : 0;
+    if (lacks == OLD || (lacks == NEITHER && chain->family == NEW) ? all_new(chain, n) : all_old(chain, n))
+        return 0;
+    const uint8_t number = number_by_record(chain, n);
+    return number == 0 && chain[driver - 1].family == lacks ? 14 : number;
 }
 
 /* Whether a blink count is in the P0 phase. */
@@ -210,6 +236,19 @@ static inline void take(max6954_device *d, uint16_t word)
     leave(d, word, (uint8_t)((first & e.get) | (data & e.echo)));
 }
 
+static inline void take_ports(max6954_device *d, uint16_t word)
+{
+    leave(d, word, take_port_word(&d->ports, word));
+}
+
+static inline void take_either(max6954_device *d, uint16_t word)
+{
+    if (d->family == NEW)
+        take_ports(d, word);
+    else
+        take(d, word);
+}
+
 /* Copies at most 32 bytes. */
 static inline void copy(uint8_t *to, const uint8_t *from, size_t count)
 {
@@ -236,49 +275,39 @@ static inline void copy(uint8_t *to, const uint8_t *from, size_t count)
     }
 }
 
+#define INLINED static inline __attribute__((always_inline))
+
 /* Each driver takes its 16 bits of a string that ends here, driver 1's last; odd is how many bits of its last byte are of it. */
-static inline void take_all(max6954_device *chain, size_t n, const uint8_t *end, unsigned odd)
+INLINED void take_all(max6954_device *chain, size_t n, const uint8_t *end, unsigned odd, void (*taken)(max6954_device *, uint16_t))
 {
     if (odd == 0) {
         for (size_t i = 0; i < n; i++) {
             end -= 2;
-            take(chain + i, __builtin_bswap16(load16(end)));
+            taken(chain + i, __builtin_bswap16(load16(end)));
         }
         return;
     }
     for (size_t i = 0; i < n; i++) {
         end -= 2;
         const uint32_t bits = (uint32_t)end[0] << 16 | (uint32_t)end[1] << 8 | end[2];
-        take(chain + i, (uint16_t)(bits >> (8 - odd)));
+        taken(chain + i, (uint16_t)(bits >> (8 - odd)));
     }
 }
 
-uint8_t tuned_access(max6954_device *chain, size_t n, size_t clocks, const uint8_t *sent, size_t sent_length, uint8_t *answer, size_t room)
+/* Puts a shift word before this place. */
+static inline uint8_t *put_shift(uint8_t *at, const max6954_device *d)
 {
-    const size_t needed = (clocks + 7) / 8, old = 2 * n;
+    store16(at - 2, __builtin_bswap16(d->shift));
+    return at - 2;
+}
+
+/* Answers from the line, which has the shift words and room for as many sent bytes. Gives where the bits left in the drivers begin. */
+INLINED const uint8_t *answer_bits(uint8_t *line, size_t old, size_t clocks, const uint8_t *sent, uint8_t *answer)
+{
+    const size_t needed = (clocks + 7) / 8;
     const unsigned odd = clocks % 8;
-    if (n - 1 >= 16)
-        return 1;
-    if (clocks > 4096)
-        return 3;
-    if (sent_length < needed)
-        return 4;
-    if (room < needed)
-        return 5;
-
-    uint8_t line[64];    /* the shift words as they are clocked out, then sent bytes */
-    uint8_t *at = line + old;
-    bounds seen = { 0 };
-    for (size_t i = 0; i < n; i++) {
-        see(&seen, chain + i);
-        at -= 2;
-        store16(at, __builtin_bswap16(chain[i].shift));
-    }
-    if (unsound(&seen))
-        return 7;
-
-    const uint8_t *left;    /* from the byte on that has the first bit left in the drivers */
-    if (clocks >= 16 * n) {
+    const uint8_t *left;    /* from the byte on that has the first of them */
+    if (clocks >= 8 * old) {
         copy(answer, line, old);
         if (needed - old > 32)
             memcpy(answer + old, sent, needed - old);
@@ -292,7 +321,54 @@ uint8_t tuned_access(max6954_device *chain, size_t n, size_t clocks, const uint8
     }
     if (odd)
         answer[needed - 1] &= (uint8_t)(0xFF00 >> odd);
-    take_all(chain, n, left + old, odd);
+    return left;
+}
+
+/* An access that isn't refused by its arguments, to a row that isn't of sound old drivers alone. */
+static __attribute__((noinline)) uint8_t access_ports(max6954_device *chain, size_t n, size_t clocks, const uint8_t *sent, uint8_t *answer)
+{
+    uint8_t line[64], *at = line + 2 * n;
+    port_bounds seen = { 0 };
+    for (size_t i = 0; i < n; i++) {
+        see_ports(&seen, chain + i);
+        at = put_shift(at, chain + i);
+    }
+    const int alike = !unsound_ports(&seen);
+    const uint8_t number = alike ? 0 : number_by_record(chain, n);
+    if (number)
+        return number;
+    const uint8_t *end = answer_bits(line, 2 * n, clocks, sent, answer) + 2 * n;
+    if (alike)
+        take_all(chain, n, end, clocks % 8, take_ports);
+    else
+        take_all(chain, n, end, clocks % 8, take_either);
+    return 0;
+}
+
+uint8_t tuned_access(max6954_device *chain, size_t n, size_t clocks, const uint8_t *sent, size_t sent_length, uint8_t *answer, size_t room)
+{
+    const size_t needed = (clocks + 7) / 8, old = 2 * n;
+    if (n - 1 >= 16)
+        return 1;
+    if (clocks > 4096)
+        return 3;
+    if (sent_length < needed)
+        return 4;
+    if (room < needed)
+        return 5;
+    if (__builtin_expect(chain->family == NEW, 0))
+        return access_ports(chain, n, clocks, sent, answer);
+
+    uint8_t line[64];    /* the shift words as they are clocked out, then sent bytes */
+    uint8_t *at = line + old;
+    bounds seen = { 0 };
+    for (size_t i = 0; i < n; i++) {
+        see(&seen, chain + i);
+        at = put_shift(at, chain + i);
+    }
+    if (unsound(&seen))
+        return access_ports(chain, n, clocks, sent, answer);
+    take_all(chain, n, answer_bits(line, old, clocks, sent, answer) + old, clocks % 8, take);
     return 0;
 }
 
@@ -302,7 +378,7 @@ typedef uint32_t lanes __attribute__((vector_size(16)));
 uint8_t tuned_scan(max6954_device *chain, size_t n, size_t driver, uint8_t a, uint8_t b, uint8_t c, uint8_t d)
 {
     static const uint32_t by_groups[8] = { 0, 0xFF, 0xFFFF, 0xFFFFFF, ~0u, ~0u, ~0u, ~0u };
-    const uint8_t number = number_of(chain, n, driver, 0);
+    const uint8_t number = number_of(chain, n, driver, 0, NEW);
     if (number)
         return number;
     max6954_registers *r = &chain[driver - 1].registers;
@@ -321,17 +397,31 @@ uint8_t tuned_scan(max6954_device *chain, size_t n, size_t driver, uint8_t a, ui
     return 0;
 }
 
+/* Whether pin levels are more than a driver of a known family has. */
+static inline int too_high(uint32_t levels, uint8_t family)
+{
+    return family == OLD ? levels > 31 : family == NEW && levels >> 28;
+}
+
 uint8_t tuned_set_pins(max6954_device *chain, size_t n, size_t driver, uint32_t levels)
 {
-    const uint8_t number = number_of(chain, n, driver, levels > 31);
-    if (number == 0)
-        chain[driver - 1].registers.pins = levels;
-    return number;
+    const int named = n - 1 < 16 && driver - 1 < n;
+    const uint8_t number = number_of(chain, n, driver, named && too_high(levels, chain[driver - 1].family), NEITHER);
+    if (number)
+        return number;
+    max6954_device *d = chain + (driver - 1);
+    if (d->family == NEW) {
+        d->ports.pins = levels;
+        settle(&d->ports);
+    } else {
+        d->registers.pins = levels;
+    }
+    return 0;
 }
 
 uint8_t tuned_add_clocks(max6954_device *chain, size_t n, size_t driver, uint32_t clocks)
 {
-    const uint8_t number = number_of(chain, n, driver, 0);
+    const uint8_t number = number_of(chain, n, driver, 0, NEW);
     if (number)
         return number;
     uint32_t *count = &chain[driver - 1].registers.blink;
@@ -410,7 +500,7 @@ max6954_segment_answer tuned_segments(const max6954_device *chain, size_t n, siz
                                       size_t font14_length, const uint16_t *font16, size_t font16_length)
 {
     max6954_segment_answer out;
-    const uint8_t number = number_of(chain, n, driver, cathode > 7 || font14_length != 128 || font16_length != 128);
+    const uint8_t number = number_of(chain, n, driver, cathode > 7 || font14_length != 128 || font16_length != 128, NEW);
     if (number || is_dark(&chain[driver - 1].registers, cathode)) {
         memset(&out, 0, sizeof out);
         out.number = number;
@@ -437,7 +527,7 @@ static inline uint8_t ruler(const max6954_registers *r)
 
 max6954_brightness_answer tuned_brightness(const max6954_device *chain, size_t n, size_t driver, size_t digit)
 {
-    max6954_brightness_answer out = { number_of(chain, n, driver, digit > 15), 0, MAX6954_RULED_BY_NONE };
+    max6954_brightness_answer out = { number_of(chain, n, driver, digit > 15, NEW), 0, MAX6954_RULED_BY_NONE };
     if (out.number)
         return out;
     const max6954_registers *r = &chain[driver - 1].registers;
@@ -452,7 +542,7 @@ max6954_brightness_answer tuned_brightness(const max6954_device *chain, size_t n
 
 max6954_shown_answer tuned_shown(const max6954_device *chain, size_t n, size_t driver)
 {
-    max6954_shown_answer out = { number_of(chain, n, driver, 0), 0 };
+    max6954_shown_answer out = { number_of(chain, n, driver, 0, NEW), 0 };
     if (out.number == 0)
         out.plane = (uint8_t)shows_p1(&chain[driver - 1].registers);
     return out;
@@ -460,17 +550,30 @@ max6954_shown_answer tuned_shown(const max6954_device *chain, size_t n, size_t d
 
 max6954_interrupt_answer tuned_interrupt(const max6954_device *chain, size_t n, size_t driver)
 {
-    max6954_interrupt_answer out = { number_of(chain, n, driver, 0), 0 };
-    if (out.number == 0)
-        out.raised = chain[driver - 1].registers.keys.interrupt;
+    max6954_interrupt_answer out = { number_of(chain, n, driver, 0, NEITHER), 0 };
+    if (out.number)
+        return out;
+    const max6954_device *d = chain + (driver - 1);
+    out.raised = d->family == NEW ? d->ports.transition.interrupt : d->registers.keys.interrupt;
     return out;
 }
 
 max6954_mark_answer tuned_answer_mark(const max6954_device *chain, size_t n, size_t driver)
 {
-    max6954_mark_answer out = { number_of(chain, n, driver, 0), 0 };
+    max6954_mark_answer out = { number_of(chain, n, driver, 0, NEITHER), 0 };
     if (out.number == 0)
         out.mark = chain[driver - 1].answer_mark;
+    return out;
+}
+
+max6957_port_answer tuned_ports(const max6954_device *chain, size_t n, size_t driver)
+{
+    max6957_port_answer out;
+    out.number = number_of(chain, n, driver, 0, OLD);
+    if (out.number == 0 && (chain[driver - 1].ports.config.s || chain[driver - 1].ports.test))
+        drive(out.ports, &chain[driver - 1].ports);
+    else
+        memset(out.ports, 0, sizeof out.ports);
     return out;
 }
 
@@ -479,7 +582,7 @@ uint8_t tuned_plane_number(const max6954_device *chain, size_t n, size_t driver,
 {
     (void)p0;
     (void)p1;
-    return number_of(chain, n, driver, first > last || last > 15 || p0_length != 16 || p1_length != 16);
+    return number_of(chain, n, driver, first > last || last > 15 || p0_length != 16 || p1_length != 16, NEW);
 }
 
 max6954_shown_answer tuned_plane_shown(const max6954_device *chain, size_t n, size_t driver, const uint8_t *p0, size_t p0_length,
@@ -509,5 +612,13 @@ max6954_device tuned_power_up(void)
     memset(d.registers.planes.p0, 0x20, 8);
     memset(d.registers.planes.p1, 0x20, 8);
     d.fitted = 255;
+    memset(d.ports.pairs, 0xAA, sizeof d.ports.pairs);
+    return d;
+}
+
+max6954_device tuned_power_up_6957(void)
+{
+    max6954_device d = tuned_power_up();
+    d.family = NEW;
     return d;
 }

@@ -6,6 +6,8 @@
 
 max6954_device tuned_power_up(void);
 
+max6954_device tuned_power_up_6957(void);
+
 uint8_t tuned_access(max6954_device *chain, size_t n, size_t clocks, const uint8_t *sent, size_t sent_length, uint8_t *answer, size_t room);
 
 uint8_t tuned_scan(max6954_device *chain, size_t n, size_t driver, uint8_t a, uint8_t b, uint8_t c, uint8_t d);
@@ -24,6 +26,8 @@ max6954_shown_answer tuned_shown(const max6954_device *chain, size_t n, size_t d
 max6954_interrupt_answer tuned_interrupt(const max6954_device *chain, size_t n, size_t driver);
 
 max6954_mark_answer tuned_answer_mark(const max6954_device *chain, size_t n, size_t driver);
+
+max6957_port_answer tuned_ports(const max6954_device *chain, size_t n, size_t driver);
 
 uint8_t tuned_plane_number(const max6954_device *chain, size_t n, size_t driver, const uint8_t *p0, size_t p0_length, const uint8_t *p1,
                            size_t p1_length, size_t first, size_t last);

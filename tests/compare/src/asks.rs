@@ -1,63 +1,34 @@
-//! Random calls, with long, short and damaged arguments, and a call in words.
+//! Random calls to drivers of either family, with long, short and damaged arguments.
 
-use crate::convert::{hex, hex_words};
 use crate::looks;
+use crate::port_words;
 use crate::random::Random;
+use crate::records::PORTS;
+use crate::rows;
 use crate::words;
-use second_double::{named_driver, Call};
+use second_double::Call;
 
-/// The kinds of calls, in the order of `kind_of`.
-pub const KINDS: [&str; 11] = [
-    "access",
-    "scan",
-    "pins",
-    "clocks",
-    "plane",
-    "segments",
-    "brightness",
-    "shown",
-    "interrupt",
-    "answer mark",
-    "look back",
-];
-
-/// The place of a call's kind among `KINDS`.
-pub fn kind_of(call: &Call) -> usize {
-    match call {
-        Call::Access { .. } => 0,
-        Call::Scan { .. } => 1,
-        Call::Pins { .. } => 2,
-        Call::Clocks { .. } => 3,
-        Call::Plane { .. } => 4,
-        Call::Segments { .. } => 5,
-        Call::Brightness { .. } => 6,
-        Call::Shown { .. } => 7,
-        Call::Interrupt { .. } => 8,
-        Call::AnswerMark { .. } => 9,
-        Call::LookBack { .. } => 10,
-    }
-}
-
-/// A call on a chain of n, mostly one that is served.
-pub fn call(random: &mut Random, n: usize) -> Call {
+/// A call on a row of these families, mostly one that is served.
+pub fn call(random: &mut Random, families: &[u8]) -> Call {
     match random.below(5) {
-        0 | 1 => access(random, n),
-        _ => other(random, n),
+        0 | 1 => access(random, families),
+        _ => other(random, families),
     }
 }
 
-/// One that isn't an access.
-pub fn other(random: &mut Random, n: usize) -> Call {
-    let driver = driver(random, n);
+/// One that isn't an access; to a MAX6957 mostly one that it has.
+pub fn other(random: &mut Random, families: &[u8]) -> Call {
+    let driver = driver(random, families.len());
+    let ports = rows::family(families, driver) == Some(PORTS);
+    if ports && !random.one_in(4) {
+        return had_by_ports(random, driver);
+    }
     match random.below(9) {
         0 | 1 => Call::Scan {
             driver,
             keys: words::keys(random),
         },
-        2 => Call::Pins {
-            driver,
-            levels: within(random, 32, u32::MAX as usize) as u32,
-        },
+        2 => pins(random, driver, ports),
         3 => Call::Clocks {
             driver,
             clocks: words::master_clocks(random),
@@ -73,13 +44,34 @@ pub fn other(random: &mut Random, n: usize) -> Call {
     }
 }
 
-/// A question with a driver alone.
+/// A question with a driver alone, seldom that of a MAX6957.
 fn flag(random: &mut Random, driver: usize) -> Call {
-    match random.below(3) {
-        0 => Call::Shown { driver },
-        1 => Call::Interrupt { driver },
+    match random.below(31) {
+        0..=9 => Call::Shown { driver },
+        10..=19 => Call::Interrupt { driver },
+        20..=29 => Call::AnswerMark { driver },
+        _ => Call::Ports { driver },
+    }
+}
+
+/// A call that a MAX6957 has.
+fn had_by_ports(random: &mut Random, driver: usize) -> Call {
+    match random.below(8) {
+        0..=3 => pins(random, driver, true),
+        4 | 5 => Call::Ports { driver },
+        6 => Call::Interrupt { driver },
         _ => Call::AnswerMark { driver },
     }
+}
+
+/// Pin levels for the driver's family, seldom for the other.
+fn pins(random: &mut Random, driver: usize, ports: bool) -> Call {
+    let levels = if ports != random.one_in(24) {
+        port_words::levels(random)
+    } else {
+        within(random, 32, u32::MAX as usize) as u32
+    };
+    Call::Pins { driver, levels }
 }
 
 /// Mostly below n; otherwise n, the largest, or a number that looks small in its low half.
@@ -109,17 +101,17 @@ fn length(random: &mut Random, exact: usize) -> usize {
     }
 }
 
-fn access(random: &mut Random, n: usize) -> Call {
+fn access(random: &mut Random, families: &[u8]) -> Call {
     let clocks = match random.below(60) {
         0 => usize::MAX - random.below(9),
         1 => 1 << 32 | random.below(4097),
-        _ => words::clocks(random, n),
+        _ => words::clocks(random, families.len()),
     };
     let needed = clocks.min(4104).div_ceil(8);
     let (sent, room) = (length(random, needed), length(random, needed));
     Call::Access {
         clocks,
-        sent: words::bits(random, sent),
+        sent: words::bits_to(random, families, sent),
         room: random.bytes(room),
     }
 }
@@ -176,43 +168,4 @@ fn table_length(random: &mut Random, exact: usize) -> usize {
         2 => 0,
         _ => exact,
     }
-}
-
-/// A call in words, its lent bytes in hex.
-pub fn spelled(call: &Call) -> String {
-    let rest = match call {
-        Call::Access { clocks, sent, room } => {
-            format!("clocks={clocks} sent={} room={}", hex(sent), hex(room))
-        }
-        Call::Scan { keys, .. } => format!("keys={}", hex(keys)),
-        Call::Pins { levels, .. } => format!("levels={levels}"),
-        Call::Clocks { clocks, .. } => format!("clocks={clocks}"),
-        Call::Plane {
-            p0,
-            p1,
-            first,
-            last,
-            ..
-        } => format!("p0={} p1={} first={first} last={last}", hex(p0), hex(p1)),
-        Call::Segments {
-            cathode,
-            font14,
-            font16,
-            ..
-        } => format!(
-            "cathode={cathode} font14={} font16={}",
-            hex_words(font14),
-            hex_words(font16)
-        ),
-        Call::Brightness { digit, .. } => format!("digit={digit}"),
-        Call::LookBack {
-            plane,
-            digit,
-            words,
-            ..
-        } => format!("plane={plane} digit={digit} words={}", hex_words(words)),
-        Call::Shown { .. } | Call::Interrupt { .. } | Call::AnswerMark { .. } => String::new(),
-    };
-    let driver = named_driver(call).map_or(String::new(), |driver| format!("driver={driver} "));
-    format!("{} {driver}{rest}", KINDS[kind_of(call)])
 }

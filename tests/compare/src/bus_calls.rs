@@ -7,11 +7,13 @@ use crate::lent::Lent;
 use crate::proved;
 use crate::proved_bus;
 use crate::random::Random;
+use crate::records::OLD;
 use crate::report::{Lines, Part};
 use crate::rows;
+use crate::spoils;
 use second_double::{Bus, BusCall, BusReply, Record, Reply, Step, Straps};
 
-const LISTS: usize = 20_000;
+const LISTS: usize = 21_500;
 const LENGTH: usize = 30;
 
 /// The calls of the bus, and the states that it is in: none is named, or a part is.
@@ -19,7 +21,10 @@ const CALLS: [&str; 4] = ["start", "stop", "write", "read"];
 const STATES: [&str; 6] = ["idle", "slave", "unmatched", "command", "writes", "reads"];
 
 /// The numbers that each may give.
-const GIVEN: [u8; 5] = [0, 1, 7, 10, 11];
+const GIVEN: [u8; 6] = [0, 1, 7, 10, 11, 14];
+
+/// Those that come before 14, on rows where it applies too.
+const BEFORE_14: [u8; 4] = [1, 7, 10, 11];
 
 /// The checks, after one for each call.
 const OTHERS: usize = 4;
@@ -29,10 +34,14 @@ const MET: usize = 6;
 /// Every number is given so often by every call, and every call is met so often in every state.
 const OFTEN: usize = 500;
 
-/// What was met: each call's numbers, each call served in each state, and whether slave bytes were a part's.
+/// Every number is given so often where 14 applies too.
+const SELDOM: usize = 100;
+
+/// What was met: each call's numbers, those where 14 applies, each call served in each state, and whose slave bytes were.
 #[derive(Default)]
 struct Met {
-    numbers: [[usize; 12]; 4],
+    numbers: [[usize; 15]; 4],
+    where_14: [usize; 15],
     states: [[usize; 6]; 4],
     slaves: [usize; 2],
 }
@@ -73,18 +82,20 @@ fn run(part: &mut Part, met: &mut Met, case: usize) {
     let mut random = Random::of(part.seed, "bus calls", case);
     let n = rows::length(&mut random);
     let straps = bus_drafts::straps(&mut random, n);
+    let row = rows::mostly_old(&mut random, n);
     let mut panel = Panel {
-        lent: Lent::of(&rows::row(&mut random, n)),
+        lent: Lent::of(&row),
         bus: bus_drafts::bus(&mut random, n),
         straps,
     };
     let length = 1 + random.below(LENGTH);
-    for step in bus_drafts::list(&mut random, n, &straps, length, asks::call) {
+    let families = rows::families(&row);
+    for step in bus_drafts::list(&mut random, &families, &straps, length, asks::call) {
         let mut damaged = random.one_in(8).then(|| panel.damaged(&mut random));
         let on = damaged.as_mut().unwrap_or(&mut panel);
         let before = on.with(on.lent.row());
         let [ours, second] = on.make(&step);
-        met.count(before.bus, &step, &second.reply);
+        met.count(&before, &step, &second.reply);
         let differ = ours != second;
         let check = bus_call_of(&step).map_or(OTHERS, place);
         part.count(check, case, differ.then(|| before.told(&step)));
@@ -120,7 +131,7 @@ impl Panel {
             bus = bus_drafts::damaged_bus(random, n);
         }
         if kind > 5 {
-            rows::spoil(random, &mut row);
+            spoils::spoil(random, &mut row);
         }
         Panel {
             lent: Lent::of(&row),
@@ -188,12 +199,15 @@ impl Outcome {
 }
 
 impl Met {
-    fn count(&mut self, bus: Bus, step: &Step, reply: &BusReply) {
+    fn count(&mut self, before: &Panel, step: &Step, reply: &BusReply) {
         let Some(call) = bus_call_of(step) else {
             return;
         };
-        self.numbers[place(call)][usize::from(reply.number)] += 1;
-        if reply.number != 0 {
+        let (row, bus, number) = (before.lent.row(), before.bus, usize::from(reply.number));
+        let lacked = row.iter().any(|record| record.family != OLD);
+        self.numbers[place(call)][number] += 1;
+        self.where_14[number] += usize::from(lacked);
+        if number != 0 {
             return;
         }
         let state = usize::from(bus.phase) + if bus.part == 0 { 0 } else { 3 };
@@ -213,6 +227,8 @@ impl Met {
             }
             counts.push(format!("{name}: numbers {numbers}"));
         }
+        let early = part.given(MET, &BEFORE_14, &self.where_14, SELDOM);
+        counts.push(format!("where 14 applies {early}"));
         let [nobody, matched] = self.slaves;
         part.met(MET, "slave bytes of nobody", nobody, OFTEN);
         part.met(MET, "slave bytes of a part", matched, OFTEN);

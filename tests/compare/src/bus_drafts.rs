@@ -1,7 +1,7 @@
 //! Random two-wire buses: straps, bus states, and lists of calls that are mostly whole transactions.
 
-use crate::asks::spelled;
 use crate::convert::hex;
+use crate::kinds::spelled;
 use crate::random::Random;
 use crate::report::Lines;
 use crate::words;
@@ -60,12 +60,12 @@ pub fn damaged_bus(random: &mut Random, n: usize) -> Bus {
 /// At least so many calls: transactions, with odd calls of the bus and others between.
 pub fn list(
     random: &mut Random,
-    n: usize,
+    families: &[u8],
     straps: &Straps,
     length: usize,
-    other: impl Fn(&mut Random, usize) -> Call,
+    other: impl Fn(&mut Random, &[u8]) -> Call,
 ) -> Vec<Step> {
-    let mut list = Vec::new();
+    let (n, mut list) = (families.len(), Vec::new());
     while list.len() < length {
         for call in phrase(random, n, straps) {
             list.push(Step::Bus(call));
@@ -73,7 +73,7 @@ pub fn list(
                 list.push(Step::Bus(odd(random, n, straps)));
             }
             if random.one_in(5) {
-                list.push(Step::Other(other(random, n)));
+                list.push(Step::Other(other(random, families)));
             }
         }
     }

@@ -1,23 +1,28 @@
 //! Lists of calls on a two-wire bus of the library, each part beside a part of the second double alone on its bus.
+//! With a MAX6957 among them the bus is refused, and the other calls are still a part's own.
 
 use crate::asks;
 use crate::bus_drafts;
+use crate::bus_list_met::Met;
 use crate::convert::{self, hex, unlike};
+use crate::kinds::{questions, spelled};
 use crate::proved;
 use crate::proved_bus;
 use crate::random::Random;
 use crate::report::{shrink, Lines, Part};
 use crate::rows;
 use ratchetelm::Device;
-use second_double::{Bus, Call, LonePart, Record, Step, Straps};
+use second_double::{Bus, BusCall, LonePart, Record, Step, Straps};
 
-const LISTS: usize = 12_000;
+const LISTS: usize = 13_500;
 const LONGEST: usize = 60;
 
 /// The checks.
 const ANSWERS: usize = 0;
 const RECORDS: usize = 1;
 const OUTPUTS: usize = 2;
+const REFUSED: usize = 3;
+const MET: usize = 4;
 
 /// A number and what is given back.
 type Answer = (u8, Vec<u8>);
@@ -39,10 +44,12 @@ struct Difference {
     alone: String,
 }
 
-/// The part: a check of every answer, one of every record after the list, and one of every output.
+/// The part: a check of every answer, one of every record after the list, one of every output, one of buses that are refused
+/// throughout, and one of what was met.
 pub fn compare(seed: u64, times: usize) -> Part {
-    let mut part = Part::new("bus lists", seed, &["answers", "records", "outputs"]);
-    let (mut parts, mut calls, mut own) = (0, 0, 0);
+    let checks = ["answers", "records", "outputs", "refused", "met"];
+    let mut part = Part::new("bus lists", seed, &checks);
+    let (mut calls, mut met) = (0, Met::default());
     for case in 0..LISTS * times {
         if part.enough() {
             break;
@@ -50,19 +57,18 @@ pub fn compare(seed: u64, times: usize) -> Part {
         let draft = Draft::new(&mut Random::of(seed, "bus lists", case));
         match draft.hear() {
             Ok(heard) => {
-                [ANSWERS, RECORDS, OUTPUTS]
+                [ANSWERS, RECORDS, OUTPUTS, REFUSED]
                     .into_iter()
                     .for_each(|check| part.count(check, case, None));
-                parts += draft.row.len();
-                (calls, own) = (calls + draft.list.len(), own + heard);
+                calls += draft.list.len();
+                met.count(&draft.row, draft.bus_number(), draft.bus_calls(), heard);
             }
             Err(difference) => part.count(difference.check, case, Some(draft.told())),
         }
     }
     let lists = part.checks[RECORDS].cases;
-    part.end(&format!(
-        "{lists} lists, {calls} calls, {parts} lone parts with {own} calls of their own"
-    ));
+    let met = met.judged(&mut part, MET);
+    part.end(&format!("{lists} lists, {calls} calls, {met}"));
     part
 }
 
@@ -75,24 +81,58 @@ impl Draft {
             bus_drafts::damage_straps(random, n, &mut straps);
         }
         let length = 1 + random.below(LONGEST);
+        let row = match random.below(4) {
+            0 => rows::known(random, n),
+            _ => rows::old(random, n),
+        };
+        let families = rows::families(&row);
         Draft {
-            row: rows::row(random, n),
+            row,
             bus: bus_drafts::bus(random, n),
             straps,
             rest: [(); 16].map(|()| random.byte()),
-            list: bus_drafts::list(random, n, &straps, length, asks::other),
+            list: bus_drafts::list(random, &families, &straps, length, asks::other),
         }
+    }
+
+    /// The number of every call of the bus, by the second double: the straps and the families stay.
+    fn bus_number(&self) -> u8 {
+        let mut row = self.row.clone();
+        second_double::bus_call(&mut row, self.bus, &self.straps, BusCall::Start).number
     }
 
     /// Makes the calls on the library's bus, and for each part its own on its lone bus; how many were a part's own.
     fn hear(&self) -> Result<usize, Difference> {
         let mut parts = convert::devices(&self.row);
-        let answers = shared(&mut parts, self.bus, &self.straps, &self.list);
+        let (answers, bus) = shared(&mut parts, self.bus, &self.straps, &self.list);
+        self.same_refusals(&answers, bus)?;
         let mut heard = 0;
         for part in 1..=self.row.len() {
             heard += self.hear_alone(part, &parts, &answers)?;
         }
         Ok(heard)
+    }
+
+    fn bus_calls(&self) -> usize {
+        self.list.iter().filter(|step| on_bus(step)).count()
+    }
+
+    /// Whether a bus that is refused is refused throughout, with one number, and stays as it is.
+    fn same_refusals(&self, answers: &[Answer], bus: Bus) -> Result<(), Difference> {
+        let number = self.bus_number();
+        let steps = self.list.iter().zip(answers);
+        let mut calls = steps.filter(|(step, _)| on_bus(step));
+        let other = calls.find(|(_, answer)| answer.0 != number);
+        if other.is_none() && (number == 0 || bus == self.bus) {
+            return Ok(());
+        }
+        let given = other.map_or(number, |(_, answer)| answer.0);
+        Err(Difference {
+            check: REFUSED,
+            part: 0,
+            shared: format!("number {given}, at last {bus:?}"),
+            alone: format!("number {number}"),
+        })
     }
 
     /// Whether a part has the answers, the record and the outputs that it has alone.
@@ -103,7 +143,7 @@ impl Draft {
         answers: &[Answer],
     ) -> Result<usize, Difference> {
         let lone = LonePart {
-            n: parts.len(),
+            families: rows::families(&self.row),
             i: part,
             straps: self.straps,
         };
@@ -157,8 +197,13 @@ impl Draft {
     }
 }
 
-/// The answers of the library's bus to a list.
-fn shared(parts: &mut [Device], mut bus: Bus, straps: &Straps, list: &[Step]) -> Vec<Answer> {
+/// The answers of the library's bus to a list, and its state after it.
+fn shared(
+    parts: &mut [Device],
+    mut bus: Bus,
+    straps: &Straps,
+    list: &[Step],
+) -> (Vec<Answer>, Bus) {
     let mut answers = Vec::new();
     for step in list {
         answers.push(match step {
@@ -173,7 +218,11 @@ fn shared(parts: &mut [Device], mut bus: Bus, straps: &Straps, list: &[Step]) ->
             }
         });
     }
-    answers
+    (answers, bus)
+}
+
+fn on_bus(step: &Step) -> bool {
+    matches!(step, Step::Bus(_))
 }
 
 /// The answer of the second double's lone bus to a call.
@@ -204,7 +253,7 @@ fn same_record(part: usize, parts: &[Device], record: &[Record; 1]) -> Result<()
     })
 }
 
-/// The interrupt, the plane shown, the pins of each cathode and the brightness of each digit.
+/// Whether the library's part shows what the lone one does.
 fn same_outputs(part: usize, parts: &[Device], record: &mut [Record; 1]) -> Result<(), Difference> {
     for (shared, alone) in questions(part).into_iter().zip(questions(1)) {
         let ours = proved::call(&mut parts.to_vec(), &shared);
@@ -212,7 +261,7 @@ fn same_outputs(part: usize, parts: &[Device], record: &mut [Record; 1]) -> Resu
         if ours != second {
             let [ours, second] =
                 [ours, second].map(|reply| answer_text(&(reply.number, reply.back)));
-            let asked = asks::spelled(&shared);
+            let asked = spelled(&shared);
             return Err(Difference {
                 check: OUTPUTS,
                 part,
@@ -222,19 +271,6 @@ fn same_outputs(part: usize, parts: &[Device], record: &mut [Record; 1]) -> Resu
         }
     }
     Ok(())
-}
-
-fn questions(driver: usize) -> Vec<Call> {
-    let font: Vec<u16> = (0..128).map(|k| 509 * k).collect();
-    let cathodes = (0..8).map(|cathode| Call::Segments {
-        driver,
-        cathode,
-        font14: font.clone(),
-        font16: font.clone(),
-    });
-    let digits = (0..16).map(|digit| Call::Brightness { driver, digit });
-    let flags = [Call::Interrupt { driver }, Call::Shown { driver }];
-    cathodes.chain(digits).chain(flags).collect()
 }
 
 fn answer_text((number, back): &Answer) -> String {

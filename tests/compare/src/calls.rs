@@ -1,34 +1,25 @@
-//! Every exported call on random rows, sound and unsound, beside the second double.
+//! Every exported call on random rows of both families, sound and unsound, beside the second double.
 
-use crate::asks::{self, KINDS};
-use crate::convert::{hex, unlike};
+use crate::asks;
+use crate::call_met::CallMet;
+use crate::convert::{self, hex, unlike};
+use crate::kinds::{kind_of, spelled, KINDS};
 use crate::lent::Lent;
 use crate::proved;
 use crate::random::Random;
 use crate::report::{Lines, Part};
 use crate::rows;
+use crate::spoils;
+use ratchetelm::Device;
 use second_double::{Call, Record, Reply};
 
-const ROWS: usize = 100_000;
+const ROWS: usize = 135_000;
 const CALLS_ON_A_ROW: usize = 12;
 
-/// The numbers that each kind of call may give.
-const NUMBERS: [&[usize]; KINDS.len()] = [
-    &[0, 1, 3, 4, 5, 7],
-    &[0, 1, 2, 7],
-    &[0, 1, 2, 6, 7],
-    &[0, 1, 2, 7],
-    &[0, 1, 2, 6, 7],
-    &[0, 1, 2, 6, 7],
-    &[0, 1, 2, 6, 7],
-    &[0, 1, 2, 7],
-    &[0, 1, 2, 7],
-    &[0, 1, 2, 7],
-    &[0, 1, 2, 6, 7],
-];
-
-/// How often each kind of call gave each number.
-type Given = [[usize; 8]; KINDS.len()];
+/// The checks, after one for each kind of call.
+const NUMBERS: usize = KINDS.len();
+const POWER_UP: usize = NUMBERS + 1;
+const MET: usize = NUMBERS + 2;
 
 /// What a call does by the library, and by the second double.
 fn ask(lent: &mut Lent, call: &Call) -> [Outcome; 2] {
@@ -89,54 +80,64 @@ impl Outcome {
     }
 }
 
-/// The part: a check for each kind of call, and one that each gave every number that it may give.
+/// The part: a check for each kind of call, one that each gave every number that it may give, one of the records at power-up,
+/// and one of what was met.
 pub fn compare(seed: u64, times: usize) -> Part {
-    let mut part = Part::new("calls", seed, &[&KINDS[..], &["numbers"]].concat());
-    let mut given = Given::default();
+    let checks = [&KINDS[..], &["numbers", "power-up", "met"]].concat();
+    let mut part = Part::new("calls", seed, &checks);
+    let mut met = CallMet::new();
+    at_power_up(&mut part);
     for case in 0..ROWS * times {
         if part.enough() {
             break;
         }
-        run(&mut part, &mut given, case);
+        run(&mut part, &mut met, case);
     }
-    let (stopped, mut counts) = (part.enough(), Vec::new());
-    for kind in 0..KINDS.len() {
-        for number in NUMBERS[kind].iter().filter(|_| !stopped) {
-            let never = vec![(KINDS[kind], format!("{number} was never given"))];
-            part.count(
-                KINDS.len(),
-                kind,
-                (given[kind][*number] == 0).then_some(never),
-            );
-        }
-        let refused: usize = given[kind][1..].iter().sum();
-        counts.push(format!("{} {}/{refused}", KINDS[kind], given[kind][0]));
-    }
-    let calls: usize = given.iter().flatten().sum();
-    part.end(&format!(
-        "{calls} calls; served/refused: {}",
-        counts.join(", ")
-    ));
+    let numbers = met.numbers(&mut part, NUMBERS);
+    let rest = met.judged(&mut part, MET);
+    part.end(&format!("{numbers}; {rest}"));
     part
 }
 
-/// One row under several calls; one in eight is made on an unsound copy of it.
-fn run(part: &mut Part, given: &mut Given, case: usize) {
+/// The records at power-up.
+fn at_power_up(part: &mut Part) {
+    let ours = [Device::power_up(), Device::max6957_power_up()];
+    let second = [Record::power_up(), Record::port_driver_power_up()];
+    for (ours, second) in convert::records(&ours).into_iter().zip(second) {
+        let differ = || {
+            vec![
+                ("library", unlike(&ours, &second)),
+                ("second", unlike(&second, &ours)),
+            ]
+        };
+        part.count(POWER_UP, 0, (ours != second).then(differ));
+    }
+}
+
+/// One row under several calls; one in eight is made on a damaged copy of it.
+fn run(part: &mut Part, met: &mut CallMet, case: usize) {
     let mut random = Random::of(part.seed, "calls", case);
     let n = rows::length(&mut random);
-    let mut lent = Lent::of(&rows::row(&mut random, n));
+    let row = rows::row(&mut random, n);
+    met.row(&row);
+    let (mut lent, families) = (Lent::of(&row), rows::families(&row));
     for _ in 0..CALLS_ON_A_ROW {
-        let call = asks::call(&mut random, n);
+        let call = asks::call(&mut random, &families);
         let mut before = lent.row().to_vec();
-        let mut unsound = None;
+        let (mut damaged, mut damage) = (None, None);
         if random.one_in(8) {
-            rows::spoil(&mut random, &mut before);
-            unsound = Some(Lent::of(&before));
+            damage = spoils::spoil(&mut random, &mut before);
+            damaged = Some(Lent::of(&before));
         }
-        let outcomes = ask(unsound.as_mut().unwrap_or(&mut lent), &call);
-        let kind = asks::kind_of(&call);
-        given[kind][usize::from(outcomes[1].reply.number)] += 1;
+        let on = damaged.as_mut().unwrap_or(&mut lent);
+        let outcomes = ask(on, &call);
+        let reply = &outcomes[1].reply;
+        met.call(&call, reply, &before, on.row());
+        if let Some(damage) = damage {
+            met.damage(damage, reply.number);
+        }
         let differ = outcomes[0] != outcomes[1];
+        let kind = kind_of(&call);
         part.count(kind, case, differ.then(|| told(&before, &call)));
         if differ {
             return;
@@ -153,7 +154,7 @@ fn told(before: &[Record], call: &Call) -> Lines {
     });
     let [ours, second] = ask(&row);
     let mut lines = rows::told(&row);
-    lines.push(("call", asks::spelled(call)));
+    lines.push(("call", spelled(call)));
     lines.push(("library", ours.beside(&second)));
     lines.push(("second", second.beside(&ours)));
     lines

@@ -1,5 +1,6 @@
 //! Between the library's record and the second double's, field by field, and a record as text.
 
+use crate::port_convert;
 use ratchetelm::{Config, Controls, Device, Group, Keys, Planes, Registers};
 use second_double::Record;
 
@@ -39,6 +40,8 @@ pub fn device(record: &Record) -> Device {
         fitted: record.fitted,
         answer_mark: record.answer_mark,
         command: record.command,
+        family: record.family,
+        ports: port_convert::registers(&record.port_driver),
     }
 }
 
@@ -85,6 +88,8 @@ pub fn record(device: &Device) -> Record {
         fitted: device.fitted,
         answer_mark: device.answer_mark,
         command: device.command,
+        family: device.family,
+        port_driver: port_convert::driver(&device.ports),
     }
 }
 
@@ -138,6 +143,8 @@ fn fields(record: &Record) -> Vec<String> {
     add("fitted", &[record.fitted]);
     add("answer_mark", &[record.answer_mark]);
     add("command", &[record.command]);
+    add("family", &[record.family]);
+    port_convert::fields(&record.port_driver, add);
     fields
 }
 

@@ -17,6 +17,12 @@ struct Brightness {
 }
 
 #[repr(C)]
+struct Ports {
+    number: u8,
+    ports: [u8; 28],
+}
+
+#[repr(C)]
 struct One {
     number: u8,
     value: u8,
@@ -51,6 +57,7 @@ extern "C" {
     fn max6954_shown(chain: *const Device, n: usize, driver: usize) -> One;
     fn max6954_interrupt(chain: *const Device, n: usize, driver: usize) -> One;
     fn max6954_answer_mark(chain: *const Device, n: usize, driver: usize) -> One;
+    fn max6957_ports(chain: *const Device, n: usize, driver: usize) -> Ports;
     fn max6954_look_back(
         chain: *const Device,
         n: usize,
@@ -132,6 +139,15 @@ pub fn interrupt(chain: &[Device], driver: usize) -> Reply {
 pub fn answer_mark(chain: &[Device], driver: usize) -> Reply {
     // SAFETY: the pointer has the length of its slice, and nothing is written.
     unsafe { max6954_answer_mark(chain.as_ptr(), chain.len(), driver) }.into()
+}
+
+pub fn ports(chain: &[Device], driver: usize) -> Reply {
+    // SAFETY: the pointer has the length of its slice, and nothing is written.
+    let answer = unsafe { max6957_ports(chain.as_ptr(), chain.len(), driver) };
+    Reply {
+        number: answer.number,
+        back: answer.ports.to_vec(),
+    }
 }
 
 pub fn look_back(

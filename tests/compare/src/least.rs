@@ -51,7 +51,7 @@ pub fn compare(seed: u64, times: usize) -> Part {
 /// One to three sound records with small pictures, and small wanted ones.
 fn draft(random: &mut Random) -> (Vec<Record>, Vec<u8>) {
     let n = 1 + random.below(3);
-    let mut row = rows::row(random, n);
+    let mut row = rows::old(random, n);
     let wanted = row.iter_mut().map(|record| match random.below(3) {
         0 => at_power_up(random, record),
         _ => dark(random, record),

@@ -1,4 +1,4 @@
-//! One row lent to both doubles, a guard record on either side.
+//! One row lent to both doubles, a guard record on either side, one of each family.
 
 use crate::convert;
 use ratchetelm::Device;
@@ -11,8 +11,8 @@ pub struct Lent {
 
 impl Lent {
     pub fn of(row: &[Record]) -> Lent {
-        let guard = [Record::power_up()];
-        let second = [&guard, row, &guard].concat();
+        let guards = [Record::power_up(), Record::port_driver_power_up()];
+        let second = [&guards[..1], row, &guards[1..]].concat();
         Lent {
             library: convert::devices(&second),
             second,

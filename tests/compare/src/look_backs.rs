@@ -80,9 +80,10 @@ impl Ask {
         while words.len() < length {
             words.push(looks::pass(random, plane, digit));
         }
+        let driver = 1 + random.below(n);
         Ask {
-            row: rows::row(random, n),
-            driver: 1 + random.below(n),
+            row: rows::around(random, n, driver),
+            driver,
             plane,
             digit,
             words,
@@ -94,7 +95,7 @@ impl Ask {
         let before = random.below(place + 3);
         let start = looks::list(random, self.plane, self.digit, before);
         Ask {
-            row: rows::row(random, self.row.len()),
+            row: rows::around(random, self.row.len(), self.driver),
             words: [&start, &self.words[place..]].concat(),
             ..*self
         }

@@ -2,6 +2,7 @@
 
 use crate::convert::{hex, hex_words};
 use crate::plan_damage::{self, KINDS};
+use crate::plan_order::Order;
 use crate::planner;
 use crate::random::Random;
 use crate::report::{shrink, Lines, Part};
@@ -9,7 +10,7 @@ use crate::rows;
 use crate::wanted;
 use second_double::{Checked, Record};
 
-const LISTS: usize = 60_000;
+const LISTS: usize = 63_000;
 
 /// The checks.
 const VERDICTS: usize = 0;
@@ -17,7 +18,7 @@ const BOTH: usize = 1;
 const NUMBERS: usize = 2;
 
 /// The numbers that refuse a check.
-const REFUSED: [u8; 3] = [1, 7, 12];
+const REFUSED: [u8; 4] = [1, 7, 12, 14];
 
 /// Lists of each kind of damage are accepted, and are not, at least so often; a number is given so often.
 const OFTEN: usize = 100;
@@ -32,7 +33,8 @@ struct Ask {
 /// The part: a check of every verdict, one that both verdicts are met under each kind of damage, and one of the numbers.
 pub fn compare(seed: u64, times: usize) -> Part {
     let mut part = Part::new("plan checks", seed, &["verdicts", "both", "numbers"]);
-    let (mut met, mut given) = ([[0; 2]; KINDS.len()], [0; 13]);
+    let (mut met, mut given) = ([[0; 2]; KINDS.len()], [0; 15]);
+    let mut order = Order::default();
     for case in 0..LISTS * times {
         if part.enough() {
             break;
@@ -41,6 +43,7 @@ pub fn compare(seed: u64, times: usize) -> Part {
         let kind = random.below(KINDS.len());
         let ask = Ask::draft(&mut random, KINDS[kind]);
         let [ours, second] = ask.verdicts();
+        order.count(&ask.row, &ask.wanted, second.number);
         match second.number {
             0 => met[kind][usize::from(second.accepted)] += 1,
             number => given[usize::from(number)] += 1,
@@ -54,8 +57,9 @@ pub fn compare(seed: u64, times: usize) -> Part {
         counts.push(format!("{kind} {accepted}/{not}"));
     }
     let numbers = part.given(NUMBERS, &REFUSED, &given, OFTEN);
+    let order = order.judged(&mut part, NUMBERS, OFTEN);
     part.end(&format!(
-        "accepted/not: {}; refused with {numbers}",
+        "accepted/not: {}; refused with {numbers}; {order}",
         counts.join(", ")
     ));
     part

@@ -2,6 +2,7 @@
 
 use crate::convert::{self, hex, hex_words};
 use crate::guards::guarded;
+use crate::plan_order::Order;
 use crate::planner;
 use crate::random::Random;
 use crate::report::{Lines, Part};
@@ -10,7 +11,7 @@ use crate::wanted;
 use ratchetelm::MOST_ACCESSES;
 use second_double::{Checked, Planned, Record};
 
-const PLANS: usize = 40_000;
+const PLANS: usize = 42_000;
 
 /// The checks.
 const ANSWERS: usize = 0;
@@ -18,9 +19,9 @@ const LISTS: usize = 1;
 const NUMBERS: usize = 2;
 
 /// The numbers that a planner may give.
-const GIVEN: [u8; 5] = [0, 1, 7, 12, 13];
+const GIVEN: [u8; 6] = [0, 1, 7, 12, 13, 14];
 
-/// Every number is given at least so often.
+/// Every number is given at least so often, and so is one where another applies too.
 const OFTEN: usize = 100;
 
 /// A chain, wanted planes, and the lent room before the call.
@@ -40,7 +41,8 @@ struct Plan {
 /// The part: a check of every answer and of what stays, one of the lists, and one that every number was given.
 pub fn compare(seed: u64, times: usize) -> Part {
     let mut part = Part::new("plans", seed, &["answers", "lists", "numbers"]);
-    let (mut given, mut accesses) = ([0; 14], [0; MOST_ACCESSES + 1]);
+    let (mut given, mut accesses) = ([0; 15], [0; MOST_ACCESSES + 1]);
+    let mut order = Order::default();
     for case in 0..PLANS * times {
         if part.enough() {
             break;
@@ -48,6 +50,7 @@ pub fn compare(seed: u64, times: usize) -> Part {
         let ask = Ask::draft(&mut Random::of(seed, "plans", case));
         let [ours, second] = ask.made();
         given[usize::from(second.planned.number)] += 1;
+        order.count(&ask.row, &ask.wanted, second.planned.number);
         accesses[second.planned.accesses] += 1;
         let same = ask.same(&ours, &second);
         part.count(ANSWERS, case, (!same).then(|| ask.told()));
@@ -57,9 +60,10 @@ pub fn compare(seed: u64, times: usize) -> Part {
         }
     }
     let numbers = part.given(NUMBERS, &GIVEN, &given, OFTEN);
+    let order = order.judged(&mut part, NUMBERS, OFTEN);
     let lengths = accesses.iter().filter(|count| **count > 0).count();
     part.end(&format!(
-        "numbers {numbers}; {lengths} lengths of 0 to 32 accesses"
+        "numbers {numbers}; {order}; {lengths} lengths of 0 to 32 accesses"
     ));
     part
 }

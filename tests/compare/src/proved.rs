@@ -2,7 +2,7 @@
 
 use crate::exported;
 use crate::guards::guarded;
-use ratchetelm::{Device, Plane, Refusal};
+use ratchetelm::{Device, Plane, PortState, Refusal};
 use second_double::{Call, Reply};
 
 /// Serves or refuses one call.
@@ -40,6 +40,19 @@ fn question(chain: &[Device], call: &Call) -> Reply {
                 .map(|answer| vec![answer.sixteenths, answer.ruler as u8]),
             exported::brightness(chain, *driver, *digit),
         ),
+        Call::LookBack {
+            driver,
+            plane,
+            digit,
+            words,
+        } => look_back(chain, *driver, *plane, *digit, words),
+        _ => of_driver(chain, call),
+    }
+}
+
+/// A question with a driver alone.
+fn of_driver(chain: &[Device], call: &Call) -> Reply {
+    match call {
         Call::Shown { driver } => agreed(
             ratchetelm::shown(chain, *driver).map(|plane| vec![plane as u8]),
             exported::shown(chain, *driver),
@@ -52,13 +65,21 @@ fn question(chain: &[Device], call: &Call) -> Reply {
             ratchetelm::answer_mark(chain, *driver).map(|mark| vec![u8::from(mark)]),
             exported::answer_mark(chain, *driver),
         ),
-        Call::LookBack {
-            driver,
-            plane,
-            digit,
-            words,
-        } => look_back(chain, *driver, *plane, *digit, words),
+        Call::Ports { driver } => agreed(
+            ratchetelm::ports(chain, *driver).map(|ports| ports.map(port_number).to_vec()),
+            exported::ports(chain, *driver),
+        ),
         _ => unreachable!("the other calls change the chain"),
+    }
+}
+
+/// What a port drives, as C has it.
+fn port_number(state: PortState) -> u8 {
+    match state {
+        PortState::Undriven => 0,
+        PortState::Low => 1,
+        PortState::High => 2,
+        PortState::Led(sixteenths) => 2 + sixteenths,
     }
 }
 

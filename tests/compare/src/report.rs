@@ -69,6 +69,16 @@ impl Part {
         }
     }
 
+    /// Counts whether each of these was met often enough; how often each was.
+    pub fn met_each(&mut self, check: usize, counts: &[(&str, usize)], least: usize) -> String {
+        let mut told = Vec::new();
+        for (what, times) in counts {
+            self.met(check, what, *times, least);
+            told.push(format!("{what} {times}"));
+        }
+        told.join(", ")
+    }
+
     /// Counts whether each number was given often enough; how often each was.
     pub fn given(&mut self, check: usize, numbers: &[u8], given: &[usize], least: usize) -> String {
         let mut counts = Vec::new();

@@ -1,15 +1,15 @@
-//! Random records, sound and unsound.
+//! Random rows of records of one family or of both.
 
 use crate::convert::unlike;
 use crate::random::Random;
+use crate::records::{own_fields, power_up, sound, OLD, PORTS};
 use crate::report::Lines;
+use crate::spoils::unknown_family;
 use second_double::Record;
 use std::mem;
 
-/// Counts on either side of every edge of the blink count.
-const COUNTS: [u32; 8] = [
-    0, 999_999, 1_000_000, 1_999_999, 2_000_000, 2_999_999, 3_000_000, 3_999_999,
-];
+/// What a row is of, in the order of `kind_of`.
+pub const KINDS: [&str; 4] = ["old", "MAX6957", "both", "unknown"];
 
 /// How many records a row has: mostly 1 to 16, the ends often.
 pub fn length(random: &mut Random) -> usize {
@@ -21,61 +21,91 @@ pub fn length(random: &mut Random) -> usize {
     }
 }
 
-/// A row of sound records; one in three at power-up.
+/// A row of sound records of the old family; one in three is at power-up.
+pub fn old(random: &mut Random, n: usize) -> Vec<Record> {
+    of(random, &vec![OLD; n])
+}
+
+/// A row of sound records: six rows of ten are of the old family, one is of MAX6957s, the others are of both.
+pub fn known(random: &mut Random, n: usize) -> Vec<Record> {
+    let families: Vec<u8> = match random.below(10) {
+        0..=5 => vec![OLD; n],
+        6 => vec![PORTS; n],
+        _ => (0..n).map(|_| random.pick(&[OLD, PORTS])).collect(),
+    };
+    of(random, &families)
+}
+
+/// The same, with an unknown family in one row of forty.
 pub fn row(random: &mut Random, n: usize) -> Vec<Record> {
-    if random.one_in(3) {
-        vec![Record::power_up(); n]
+    let mut row = known(random, n);
+    if n > 0 && random.one_in(40) {
+        let at = random.below(n);
+        unknown_family(random, &mut row[at]);
+    }
+    row
+}
+
+/// Mostly a row of the old family, for what a MAX6957 lacks wherever it stands.
+pub fn mostly_old(random: &mut Random, n: usize) -> Vec<Record> {
+    if random.one_in(6) {
+        row(random, n)
     } else {
-        (0..n).map(|_| sound(random)).collect()
+        old(random, n)
     }
 }
 
-/// Any sound record, the edges often.
-fn sound(random: &mut Random) -> Record {
-    let mut four = || [(); 4].map(|()| random.byte());
-    let (mask, debounced, pressed, held) = (four(), four(), four(), four());
-    let mut sixteen = || [(); 16].map(|()| random.byte());
-    let (p0, p1) = (sixteen(), sixteen());
-    Record {
-        decode: random.byte(),
-        global: random.byte() % 16,
-        limit: if random.one_in(2) {
-            7
-        } else {
-            random.byte() % 8
-        },
-        gpio: random.byte() % 32,
-        ports: random.byte(),
-        test: u8::from(random.one_in(6)),
-        types: random.byte(),
-        i: random.byte() % 2,
-        e: random.byte() % 2,
-        b: random.byte() % 2,
-        s: u8::from(!random.one_in(6)),
-        intensities: [(); 8].map(|()| random.byte()),
-        mask,
-        debounced,
-        pressed,
-        held,
-        interrupt: random.byte() % 2,
-        p0,
-        p1,
-        pins: u32::from(random.byte() % 32),
-        blink: random.pick(&COUNTS),
-        shift: random.number() as u16,
-        fitted: random.byte(),
-        answer_mark: random.byte() % 2,
-        command: random.byte() % 128,
+/// A row in which this driver is of the old family, and the others are of either.
+pub fn around(random: &mut Random, n: usize, driver: usize) -> Vec<Record> {
+    let mut row = known(random, n);
+    if row[driver - 1].family != OLD {
+        row[driver - 1] = sound(random, OLD);
+    }
+    row
+}
+
+/// Sound records of these families; one row in three is at power-up.
+fn of(random: &mut Random, families: &[u8]) -> Vec<Record> {
+    let at_power_up = random.one_in(3);
+    let record = |family: &u8| match at_power_up {
+        true => power_up(*family),
+        false => sound(random, *family),
+    };
+    families.iter().map(record).collect()
+}
+
+/// The families of a row.
+pub fn families(row: &[Record]) -> Vec<u8> {
+    row.iter().map(|record| record.family).collect()
+}
+
+/// The family of a driver, counted from 1; none where there is no such driver.
+pub fn family(families: &[u8], driver: usize) -> Option<u8> {
+    families.get(driver.wrapping_sub(1)).copied()
+}
+
+/// The place of what a row is of among `KINDS`.
+pub fn kind_of(row: &[Record]) -> usize {
+    let all = |family: u8| row.iter().all(|record| record.family == family);
+    let unknown = row.iter().any(|record| record.family > PORTS);
+    match (all(OLD), all(PORTS)) {
+        (true, _) => 0,
+        (_, true) => 1,
+        _ if unknown => 3,
+        _ => 2,
     }
 }
 
-/// Puts records to power-up as long as the row still shows a difference.
+/// Puts records, or their other family's fields, to power-up as long as the row still shows a difference.
 pub fn simplify(row: &[Record], differ: impl Fn(&[Record]) -> bool) -> Vec<Record> {
     let mut row = row.to_vec();
     for at in 0..row.len() {
-        let kept = mem::replace(&mut row[at], Record::power_up());
-        if !differ(&row) {
-            row[at] = kept;
+        let family = row[at].family;
+        for simpler in [own_fields(&row[at]), power_up(family), power_up(OLD)] {
+            let kept = mem::replace(&mut row[at], simpler);
+            if !differ(&row) {
+                row[at] = kept;
+            }
         }
     }
     row
@@ -95,40 +125,4 @@ pub fn told(row: &[Record]) -> Lines {
         }
     }
     lines
-}
-
-/// Makes one field of one record not fit, if there is a record.
-pub fn spoil(random: &mut Random, row: &mut [Record]) {
-    if row.is_empty() {
-        return;
-    }
-    let record = &mut row[random.below(row.len())];
-    match random.below(13) {
-        0 => record.global = byte_above(random, 15),
-        1 => record.limit = byte_above(random, 7),
-        2 => record.gpio = byte_above(random, 31),
-        3 => record.test = byte_above(random, 1),
-        4 => record.i = byte_above(random, 1),
-        5 => record.e = byte_above(random, 1),
-        6 => record.b = byte_above(random, 1),
-        7 => record.s = byte_above(random, 1),
-        8 => record.interrupt = byte_above(random, 1),
-        9 => record.answer_mark = byte_above(random, 1),
-        10 => record.command = byte_above(random, 127),
-        11 => record.pins = above(random, 31, u32::MAX),
-        _ => record.blink = above(random, 3_999_999, u32::MAX),
-    }
-}
-
-fn byte_above(random: &mut Random, most: u32) -> u8 {
-    above(random, most, 255) as u8
-}
-
-/// A number above the most that fits: the next, the largest or any.
-fn above(random: &mut Random, most: u32, largest: u32) -> u32 {
-    match random.below(3) {
-        0 => most + 1,
-        1 => largest,
-        _ => most + 1 + random.number() as u32 % (largest - most),
-    }
 }

@@ -1,8 +1,9 @@
-//! Random chains, and planes that a planner is to bring them to.
+//! Random chains, mostly of the old family, and planes that a planner is to bring them to.
 
 use crate::asks;
 use crate::random::Random;
 use crate::rows;
+use crate::spoils;
 use second_double::Record;
 
 /// How a digit is wanted in both planes.
@@ -36,12 +37,14 @@ const KINDS: [Kind; 7] = [
 
 const FEW: [u8; 3] = [0x00, 0x20, 0xFF];
 
-/// A row after a few random calls, and wanted planes; one row in eight is unsound, one in ten has planes of another length.
+/// A row after a few random calls, and wanted planes; some rows aren't of the old family alone, one in eight is damaged, one in
+/// ten has planes of another length.
 pub fn any(random: &mut Random) -> (Vec<Record>, Vec<u8>) {
     let n = rows::length(random);
-    let (mut row, mut wanted) = sound(random, n);
+    let row = rows::mostly_old(random, n);
+    let (mut row, mut wanted) = after_calls(random, row);
     if random.one_in(8) {
-        rows::spoil(random, &mut row);
+        spoils::spoil(random, &mut row);
     }
     let exact = wanted.len();
     let length = match random.below(60) {
@@ -57,11 +60,17 @@ pub fn any(random: &mut Random) -> (Vec<Record>, Vec<u8>) {
     (row, wanted)
 }
 
-/// A row of n sound records after a few random calls, and wanted planes: in one row of three most drivers keep theirs.
+/// A row of n sound records of the old family after a few random calls, and wanted planes.
 pub fn sound(random: &mut Random, n: usize) -> (Vec<Record>, Vec<u8>) {
-    let mut row = rows::row(random, n);
+    let row = rows::old(random, n);
+    after_calls(random, row)
+}
+
+/// A row after a few random calls, and wanted planes: in one row of three most drivers keep theirs.
+fn after_calls(random: &mut Random, mut row: Vec<Record>) -> (Vec<Record>, Vec<u8>) {
+    let families = rows::families(&row);
     for _ in 0..random.below(6) {
-        second_double::call(&mut row, &asks::call(random, n));
+        second_double::call(&mut row, &asks::call(random, &families));
     }
     for record in &mut row {
         if random.one_in(3) {

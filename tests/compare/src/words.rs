@@ -1,6 +1,8 @@
 //! What a bench gives a chain: words and bus clocks, master clocks, closed keys.
 
+use crate::port_words;
 use crate::random::Random;
+use crate::records::{OLD, PORTS};
 
 /// Master clocks around the edges of the blink count.
 const EDGES: [u32; 12] = [
@@ -54,6 +56,24 @@ fn data(random: &mut Random, address: u8) -> u8 {
         0x20..=0x6F if random.one_in(4) => byte & 0xF0,
         _ => byte,
     }
+}
+
+/// A word to a driver of a family, sometimes one of the other.
+fn word_to(random: &mut Random, family: u8) -> [u8; 2] {
+    if (family == PORTS) != random.one_in(12) {
+        port_words::word(random)
+    } else {
+        word(random)
+    }
+}
+
+/// Words to each driver of a row in turn, the last driver's first, cut or filled to a length.
+pub fn bits_to(random: &mut Random, families: &[u8], length: usize) -> Vec<u8> {
+    let mut turns = families.iter().rev().cycle();
+    let mut word = || word_to(random, turns.next().copied().unwrap_or(OLD));
+    let mut bytes: Vec<u8> = (0..length.div_ceil(2)).flat_map(|_| word()).collect();
+    bytes.truncate(length);
+    bytes
 }
 
 /// Words in a row, cut or filled to a length.

@@ -91,6 +91,7 @@ sound-after {n} {fs} σ q {b} {ds} w =
     go : (a : Bool) → accepted n fs σ q ≡ a → (length (if a (served q (stateOf b) ds) ds) ≡ n) × (allSound (if a (served q (stateOf b) ds) ds) ≡ true)
     go true a = served-sound σ ds (w .count) (w .kinds) (w .records) q (stateOf b) a
     go false a = (w .count, w .records)
+
     kept : (a : Bool) → families (if a (served q (stateOf b) ds) ds) ≡ fs
     kept true = served-families σ ds (w .count) (w .kinds) (w .records) q (stateOf b)
     kept false = w .kinds

@@ -4,8 +4,8 @@ use Prim.Native.Nat.{ℕ, _+_, _*_}
 use mathlib.Core.List.{List, [], _∷_, _++_, map}
 use lib.ListN.{getD, replicate}
 use Rattle.ground.specs.Lists.{Agree}
-use Rattle.device.specs.PowerUp.{powerUp, freshChain}
-use Rattle.device.specs.Record.{withCommand}
+use Rattle.device.specs.PowerUp.{powerUp, powerUp6957, freshChain}
+use Rattle.device.specs.Record.{withCommand, withFamily}
 use Rattle.device.specs.declared.Device.{Device}
 use Rattle.calls.specs.Calls.{scan}
 use Rattle.calls.specs.Served.{recordOf}
@@ -171,6 +171,12 @@ numberRows =
     ∷ (numbersOf (straps (0x60 ∷ 0x60 ∷ [])) (record { part = 3; phase = 1 }) (freshChain 2), 7 ∷ 7 ∷ 7 ∷ 7 ∷ [])
     ∷ (numbersOf one (busOf idle) (withCommand powerUp 127 ∷ []), 0 ∷ 0 ∷ 0 ∷ 0 ∷ [])
     ∷ (numbersOf one (busOf idle) (withCommand powerUp 128 ∷ []), 7 ∷ 7 ∷ 7 ∷ 7 ∷ [])
+    -- request 8: 14 where any part is a MAX6957, or of an unknown family; after 7, 10 and 11
+    ∷ (numbersOf (straps (0x60 ∷ 0x61 ∷ [])) (busOf idle) (powerUp ∷ powerUp6957 ∷ []), 14 ∷ 14 ∷ 14 ∷ 14 ∷ [])
+    ∷ (numbersOf (straps (0x60 ∷ 0x61 ∷ [])) (busOf idle) (withFamily powerUp 2 ∷ powerUp ∷ []), 14 ∷ 14 ∷ 14 ∷ 14 ∷ [])
+    ∷ (numbersOf (straps (0x60 ∷ 0x60 ∷ [])) (busOf idle) (powerUp ∷ powerUp6957 ∷ []), 10 ∷ 10 ∷ 10 ∷ 10 ∷ [])
+    ∷ (numbersOf (straps (0x60 ∷ 0xE0 ∷ [])) (busOf idle) (powerUp ∷ powerUp6957 ∷ []), 11 ∷ 11 ∷ 11 ∷ 11 ∷ [])
+    ∷ (numbersOf (straps (0x60 ∷ 0x61 ∷ [])) (record { part = 3; phase = 1 }) (powerUp ∷ powerUp6957 ∷ []), 7 ∷ 7 ∷ 7 ∷ 7 ∷ [])
     ∷ []
 
 -- refused calls

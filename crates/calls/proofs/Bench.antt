@@ -1,4 +1,4 @@
--- The bench examples, by one computation over the joined table, and those of numbers, answers, answer marks, the planner and the look back.
+-- The bench examples, by one computation over the joined table, and those of numbers, answers, answer marks, the planner, the look back and both families.
 -- Assumes nothing.
 use Rattle.ground.proofs.Names.{refl, tabulate, Agree}
 use Rattle.wire.specs.Bits.{bits, value, unpack, byteAt, pack, wordAt}
@@ -17,7 +17,7 @@ use Rattle.display.specs.Examples.{WireExamples}
 use Rattle.calls.specs.CallRefusals.{familiesBelow, allSound}
 use Rattle.calls.specs.Outcome.{number, after, reply}
 use Rattle.calls.specs.CallLists.{afterAll, numbers, replies}
-use Rattle.calls.specs.Examples.{rows, numberRows, answerRows, markRows, planRows, lookBackRows, Examples}
+use Rattle.calls.specs.Examples.{rows, numberRows, answerRows, markRows, planRows, lookBackRows, familyRows, Examples}
 
 bench : Agree rows
 unfolding portTaken portPinned settled levels directions upperBits replaced statesOf tabulate bits value unpack byteAt pack wordAt string words wire answer shifted taken takes familiesBelow soundRecord pinned allSound number after reply afterAll numbers replies
@@ -46,5 +46,9 @@ bench-looks : Agree lookBackRows
 unfolding taken takes familiesBelow soundRecord pinned allSound number reply
 bench-looks = refl
 
+bench-families : Agree familyRows
+unfolding portTaken portPinned settled levels directions upperBits replaced statesOf tabulate bits value unpack byteAt pack wordAt string words wire answer shifted taken takes familiesBelow soundRecord pinned allSound number after reply afterAll replies
+bench-families = refl
+
 pub examples : Examples
-examples = record { bench = bench; wires = bench-wires; numbers = bench-numbers; answers = bench-answers; marked = bench-marks; planned = bench-plans; looked-back = bench-looks }
+examples = record { bench = bench; wires = bench-wires; numbers = bench-numbers; answers = bench-answers; marked = bench-marks; planned = bench-plans; looked-back = bench-looks; families = bench-families }

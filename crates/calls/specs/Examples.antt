@@ -1,17 +1,18 @@
 -- Believed: document 01, "Bench examples", 10 and 11 in the table of the display, the others in one, and "Numbers a call
--- may give", 1 to 7, 3 by example 12; document 02, requests 1, 2, 6 and 9: what the definitions give beside what the documents say.
+-- may give", 1 to 7, 3 by example 12; document 02, requests 1, 2, 6, 8 and 9: what the definitions give beside what the documents say.
 -- Assumes nothing.
 use Prim.Native.Nat.{ℕ, _+_, _*_}
 use mathlib.Core.List.{List, [], _∷_, _++_, map}
 use lib.ListN.{replicate}
 use Rattle.ground.specs.Lists.{tabulate, Agree}
-use Rattle.device.specs.PowerUp.{powerUp, freshChain}
-use Rattle.device.specs.Record.{withPins, withBlink, withShift, withMark}
+use Rattle.port_registers.specs.PortRecord.{withPins as withLevels}
+use Rattle.device.specs.PowerUp.{powerUp, powerUp6957, freshChain}
+use Rattle.device.specs.Record.{withPins, withBlink, withShift, withMark, withCommand, withPorts, withFamily}
 use Rattle.device.specs.Taken.{taken}
 use Rattle.device.specs.Examples.{rows as driverRows}
 use Rattle.device.specs.declared.Device.{Device}
 use Rattle.display.specs.Examples.{WireExamples, rows as displayRows}
-use Rattle.calls.specs.Calls.{scan, levels, Question, plane, segments, brightness, shown, interrupt, answerMark, lookBack, plan, planCheck, Call, access, give, ask, askChain}
+use Rattle.calls.specs.Calls.{scan, levels, clocks, Question, plane, planeShown, segments, brightness, shown, interrupt, answerMark, lookBack, ports, plan, planCheck, Call, access, give, ask, askChain}
 use Rattle.calls.specs.Served.{recordOf}
 use Rattle.calls.specs.Outcome.{number, reply}
 use Rattle.calls.specs.CallLists.{afterAll, numbers, replies}
@@ -235,6 +236,76 @@ planRows =
     ∷ (reply (askChain (planCheck (replicate 31 0) (0x0420 ∷ []))) (freshChain 1), 0 ∷ [])
     ∷ []
 
+-- request 8: a MAX6954, and a MAX6957 behind it
+abbrev pub mixed : List Device
+mixed = powerUp ∷ powerUp6957 ∷ []
+
+-- a driver of an unknown family, none of whose fields fits
+abbrev pub stranger : Device
+stranger = withFamily (withPorts (withMark (withPins powerUp 32) 2) (withLevels (powerUp .ports) 0x10000000)) 2
+
+-- the numbers of everything that a driver may be given or asked
+abbrev pub eachNumber : ℕ → List Device → List ℕ
+eachNumber j ds =
+    map (λ st. number (give j st) ds) (scan 0 0 0 0 ∷ levels 0 ∷ clocks 0 ∷ [])
+    ++ map (λ q. number (ask j q) ds) (plane lent lent 0 0 ∷ planeShown lent lent 0 0 ∷ segments 0 font font ∷ brightness 0 ∷ shown ∷ interrupt ∷ answerMark ∷ lookBack 0 0 [] ∷ ports ∷ [])
+
+-- words taken, the first of them driver 2's
+abbrev pub twoWords : ℕ → ℕ → ℕ → ℕ → Call
+twoWords a b c d = accessOf 32 (a ∷ b ∷ c ∷ d ∷ [])
+
+-- numbers, answers and outputs of a chain that mixes both families
+abbrev pub familyRows : List (List ℕ × List ℕ)
+familyRows =
+    -- one word has a meaning in each family: 0x02, and 0x20, which is a virtual port
+    (
+      joined (replies (twoWords 0x02 0x03 0x02 0x05 ∷ twoWords 0x82 0x00 0x82 0x00 ∷ twoWords 0x20 0x07 0x20 0x07 ∷ twoWords 0xA0 0x00 0xA0 0x00 ∷ twoWords 0x00 0x00 0x00 0x00 ∷ []) mixed),
+      0x00 ∷ 0x00 ∷ 0x00 ∷ 0x00 ∷ 0x02 ∷ 0x03 ∷ 0x02 ∷ 0x05 ∷ 0x82 ∷ 0x03 ∷ 0x82 ∷ 0x05 ∷ 0x20 ∷ 0x07 ∷ 0x20 ∷ 0x07 ∷ 0xA0 ∷ 0x00 ∷ 0xA0 ∷ 0x07 ∷ [],
+    )
+    -- 6: pin levels above 31 of the old family, over 28 bits of a MAX6957
+    ∷ (map (λ l. number (give 1 (levels l)) mixed) (31 ∷ 32 ∷ []) ++ map (λ l. number (give 2 (levels l)) mixed) (32 ∷ 0xFFFFFFF ∷ 0x10000000 ∷ []), 0 ∷ 6 ∷ 0 ∷ 0 ∷ 6 ∷ [])
+    -- 14: what each family lacks, and nothing else
+    ∷ (eachNumber 1 mixed, 0 ∷ 0 ∷ 0 ∷ 0 ∷ 0 ∷ 0 ∷ 0 ∷ 0 ∷ 0 ∷ 0 ∷ 0 ∷ 14 ∷ [])
+    ∷ (eachNumber 2 mixed, 14 ∷ 0 ∷ 14 ∷ 14 ∷ 14 ∷ 14 ∷ 14 ∷ 14 ∷ 0 ∷ 0 ∷ 14 ∷ 0 ∷ [])
+    -- 2 and 6 before it: brightness of digit 16, the ports of driver 3
+    ∷ (number (ask 2 (brightness 15)) mixed ∷ number (ask 2 (brightness 16)) mixed ∷ number (ask 3 ports) mixed ∷ [], 14 ∷ 6 ∷ 2 ∷ [])
+    -- the planner and its check, where any driver is a MAX6957: before 12 and 13
+    ∷ (
+      map (λ k. number (askChain (plan (replicate k 0) [])) mixed) (63 ∷ 64 ∷ []) ++ map (λ k. number (askChain (planCheck (replicate k 0) [])) mixed) (63 ∷ 64 ∷ []),
+      14 ∷ 14 ∷ 14 ∷ 14 ∷ [],
+    )
+    -- a family unknown in any record: every call; 7 and the pin limit don't test that record
+    ∷ (number (accessOf 32 (0 ∷ 0 ∷ 0 ∷ 0 ∷ [])) (stranger ∷ powerUp6957 ∷ []) ∷ [], 14 ∷ [])
+    ∷ (eachNumber 1 (stranger ∷ powerUp6957 ∷ []) ++ eachNumber 1 (powerUp ∷ stranger ∷ []), replicate 24 14)
+    ∷ (map (λ j. number (give j (levels 0xFFFFFFFF)) (stranger ∷ powerUp6957 ∷ [])) (1 ∷ 2 ∷ []), 14 ∷ 6 ∷ [])
+    ∷ (number (askChain (plan (replicate 64 0) [])) (powerUp ∷ stranger ∷ []) ∷ [], 14 ∷ [])
+    -- 1, 4 and 7 before it: 7 by another record
+    ∷ (
+      number (ask 1 interrupt) (stranger ∷ freshChain 16) ∷ number (access 32 (0 ∷ []) (replicate 4 0)) (stranger ∷ powerUp6957 ∷ []) ∷ number (accessOf 48 (replicate 6 0)) (stranger ∷ withPins powerUp 32 ∷ powerUp6957 ∷ []) ∷ [],
+      1 ∷ 4 ∷ 7 ∷ [],
+    )
+    -- 7 before the planner's and a question's 14
+    ∷ (map (λ d. number (askChain (planCheck [] [])) (d ∷ powerUp6957 ∷ [])) (powerUp ∷ withPins powerUp 32 ∷ []) ++ map (λ d. number (ask 2 shown) (d ∷ powerUp6957 ∷ [])) (powerUp ∷ withPins powerUp 32 ∷ []), 14 ∷ 7 ∷ 14 ∷ 7 ∷ [])
+    -- 7: a record is tested by its own family's fields, and the answer mark; the command address of the old family alone
+    ∷ (
+      map (λ d. number (ask 1 interrupt) (d ∷ [])) (withPins powerUp6957 32 ∷ withCommand powerUp6957 128 ∷ withMark powerUp6957 2 ∷ withPorts powerUp6957 (withLevels (powerUp .ports) 0x10000000) ∷ withPorts powerUp (withLevels (powerUp .ports) 0x10000000) ∷ withCommand powerUp 128 ∷ []),
+      0 ∷ 0 ∷ 7 ∷ 7 ∷ 0 ∷ 7 ∷ [],
+    )
+    -- the ports of driver 2 after 0401, 0955, 4005: P4 and P6 high, P5 and P7 low; refused: 28 times undriven
+    ∷ (
+      reply (ask 2 ports) (afterAll (twoWords 0x04 0x01 0 0 ∷ twoWords 0x09 0x55 0 0 ∷ twoWords 0x40 0x05 0 0 ∷ []) mixed),
+      2 ∷ 1 ∷ 2 ∷ 1 ∷ replicate 24 0,
+    )
+    ∷ (reply (ask 1 ports) mixed, replicate 28 0)
+    -- driver 2 watches P24: its pin raises INT, and the interrupt of driver 1 stays
+    ∷ (
+      joined (map (λ j. reply (ask j interrupt) (afterAll (twoWords 0x06 0x01 0 0 ∷ twoWords 0x04 0x81 0 0 ∷ give 2 (levels 0x100000) ∷ []) mixed)) (1 ∷ 2 ∷ [])),
+      0 ∷ 1 ∷ [],
+    )
+    -- the mark of a read, and of a write
+    ∷ (marks (afterAll (twoWords 0x84 0x00 0x04 0x01 ∷ []) mixed) ++ marks (afterAll (twoWords 0x04 0x00 0x84 0x00 ∷ []) mixed), 0 ∷ 1 ∷ 1 ∷ 0 ∷ [])
+    ∷ []
+
 -- what the definitions give is what the documents say
 pub record Examples : Type 0 where
   pub bench : Agree rows
@@ -244,3 +315,4 @@ pub record Examples : Type 0 where
   pub marked : Agree markRows
   pub planned : Agree planRows
   pub looked-back : Agree lookBackRows
+  pub families : Agree familyRows

@@ -105,7 +105,8 @@ pub record Alone (qs : List Call) (ds : List Device) (i : ℕ) : Type 0 where
   pub same-record : recordOf (afterAll qs ds) i ≡ lone (length ds) (families ds) i qs (recordOf ds i)
   -- it has answered what the lone driver answers, in order
   pub same-answers : allAnsweredBy (length ds) (families ds) i qs (replies qs ds) ≡ loneReplies (length ds) (families ds) i qs (recordOf ds i)
-  -- its outputs are the lone driver's: the interrupt, the answer mark, the plane shown, each cathode's pins under any glyph tables, each digit's brightness; of a MAX6957 what each port shows
+  -- its outputs are the lone driver's: the interrupt, the answer mark, the plane shown, each cathode's pins under any glyph tables, each digit's brightness; of a MAX6957 what each
+  -- port drives
   pub same-outputs : (q : Question) → accepted (length ds) (families ds) (ask i q) ≡ true
       → reply (ask i q) (afterAll qs ds) ≡ answerTo q (lone (length ds) (families ds) i qs (recordOf ds i))
 

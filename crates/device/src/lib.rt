@@ -317,7 +317,7 @@ impl Device {
     }
 
     // Whether every field of a MAX6957 does.
-    pub fn ports_sound(self) -> bool
+    fn ports_sound(self) -> bool
         ensures { λ r. ⌜ r ≡ portSound self ⌝ }
     {
         let ports = self.ports;

@@ -18,10 +18,12 @@ use Rattle.high_words.specs.HighWords.{newMark}
 abbrev pub isPorts : ℕ → Bool
 isPorts family = eqb family 1
 
+-- the registers after a word
 abbrev pub registersBy : Registers → Word → Registers
 registersBy x (Write r v) = written x r v
 registersBy x (Read r) = afterRead x r
 
+-- the shift word after it
 abbrev pub shiftBy : Registers → ℕ → Word → ℕ
 shiftBy x w (Write r v) = w
 shiftBy x w (Read r) = answerWord w (dataOf x r)

@@ -1,19 +1,12 @@
 // What a word changes where its record lies, by value: with an address of 0x20 or above a digit's byte in each plane, else the registers; the shift word and the answer mark.
 ghost use mathlib.Core.Path.{_≡_};
-ghost use Rattle.high_words.specs.HighWords.{isHigh, inPlace, digitOf, newP0, newP1, digitRead, newShift, newMark};
+ghost use Rattle.high_words.specs.HighWords.{inPlace, digitOf, newP0, newP1, digitRead, newShift, newMark};
 ghost use Rattle.high_words.specs.LowWords.{isPorts, lowRegisters, lowShift};
 ghost use Rattle.device.specs.Taken.{answerWord};
 use registers::Registers;
 use words::Word;
 
-// A word's address is 0x20 or above.
-pub fn is_high(word: u16) -> bool
-    ensures { λ r. ⌜ r ≡ isHigh word ⌝ }
-{
-    1 < word / 4096 % 8
-}
-
-// Such a word is for a driver of the old family.
+// A word with an address of 0x20 or above, for a driver of the old family.
 pub fn in_place(word: u16, family: u8) -> bool
     ensures { λ r. ⌜ r ≡ inPlace word family ⌝ }
 {

@@ -170,6 +170,7 @@ module _ (ds : List Device) (first w : ℕ) where
       row : (old : Bool) (k : ℕ) → firstOf (k ∷ if {A = ℕ} old 0 0 ∷ []) ≡ firstOf (k ∷ [])
       row true k = refl
       row false k = refl
+
       go : (a b : Bool) → eqb first 0 ≡ a → familiesBelow 1 (families (take (if (a && b) (length ds) 0) ds)) ≡ false
           → recordsRefusal ds 0 0 ≡ if a (firstOf (soundRefusal (allSound (take (if (a && b) (length ds) 0) ds)) ∷ familyRefusal (familiesBelow 2 (families (take (if (a && b) (length ds) 0) ds))) ∷ [])) first
       go true true z o = rw (take-length ds) (ap (λ (k : ℕ). if (eqb (soundRefusal (allSound ds)) 0) k (soundRefusal (allSound ds))) (row (familiesBelow 1 (families ds)) (familyRefusal (familiesBelow 2 (families ds)))))
@@ -184,6 +185,7 @@ row-found ds = rw (row-argument (familyAt (families ds) 1)) (go (length ds))
     known true b i = refl
     known false true i = absurd (true≢false (sym (i refl)))
     known false false i = refl
+
     go : (n : ℕ) → firstOf (chainRefusal n ∷ driverRefusal n 1 ∷ soundRefusal (allSound ds) ∷ familyRefusal (familiesBelow 2 (families ds)) ∷ rowLackAt rowOwn (familiesBelow 1 (families ds)) ∷ []) ≡ firstOf (chainRefusal n ∷ soundRefusal (allSound ds) ∷ familyRefusal (familiesBelow 1 (families ds)) ∷ [])
     go zero = refl
     go (suc n) = rw (le-leb 1 (suc n) (omega arith)) (ap (λ (k : ℕ). if (eqb (if (ltb (suc n) 17) 0 1) 0) (if (eqb (soundRefusal (allSound ds)) 0) k (soundRefusal (allSound ds))) (if (ltb (suc n) 17) 0 1)) (known (familiesBelow 2 (families ds)) (familiesBelow 1 (families ds)) (below-more (families ds))))

@@ -68,6 +68,7 @@ module _ (s : Seen) (d : Device) (y : Bytes d) where
           and-swap false true = refl
           and-swap false false = refl
       swap false b c = refl
+
       go : (b : Bool) → eqb (d .family) 1 ≡ b → seenFit (if b (portsWith s d) (otherWith s d)) ≡ seenFit s && soundRecord d
       go true e =
           let f : d .family ≡ 1 = eqb-true (d .family) 1 e in

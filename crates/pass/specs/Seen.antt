@@ -47,6 +47,7 @@ otherWith s x =
       families = bitOr (s .families) (x .family);
     }
 
+-- one more record, tested by its own family
 abbrev pub seenWith : Seen → Device → Seen
 seenWith s x = if (eqb (x .family) 1) (portsWith s x) (otherWith s x)
 

@@ -274,7 +274,7 @@ fn first_of(a: u8, b: u8) -> u8
 }
 
 // 1: the chain has 0 or more than 16 records.
-pub fn chain_refusal(n: usize) -> u8
+fn chain_refusal(n: usize) -> u8
     ensures { λ r. ⌜ r ≡ chainRefusal n ⌝ }
 {
     if (0 < n) & (n < 17) { 0 } else { 1 }

@@ -51,7 +51,7 @@ module _ {M : Type 1} {𝓤 : URA M} {H : Heap 𝓤} {A : Atoms 𝓤} {K : Type 
       lands-known t byte (rowRefusal (x .now)) w r e (λ is wt. use1 W (‵ (flft κ q) ⊛ ‵ ftrue) (id⊢ 𝓤 _) $ split t $ move t (1 ∷ []) $ drop t $ move t (1 ∷ []) $ drop t $ move t (1 ∷ []) $ next is wt))
 
 module _ {M : Type 1} {𝓤 : URA M} {H : Heap 𝓤} {A : Atoms 𝓤} {K : Type 0} {W : Given 𝓤 H A} {Γ : List (Item 𝓤)} {E : Env 𝓤 H} {C : Calls 𝓤 H} {Λ : Loops 𝓤 H} {p : Post 𝓤 H} {xs : List Operand} {d : Place} {rest : Body} where
-  pub rows-mut : K → FmC 𝓤 H (W .laws) C → (mem : Memory → SProp 𝓤) (run : Routine → Fun 𝓤) → Triple 𝓤 (C row-refusal.Symbol.name) (RowRefusal 𝓤 H A mem run) → (κ : Lft) (q : Share) (b o : ℕ) (γ : GName) (ys : List Device) → Room (device .row) (length ys) 
+  pub rows-mut : K → FmC 𝓤 H (W .laws) C → (mem : Memory → SProp 𝓤) (run : Routine → Fun 𝓤) → Triple 𝓤 (C row-refusal.Symbol.name) (RowRefusal 𝓤 H A mem run) → (κ : Lft) (q : Share) (b o : ℕ) (γ : GName) (ys : List Device) → Room (device .row) (length ys)
       → ((i s r : Item 𝓤) → Opds K W (i ∷ s ∷ r ∷ Γ) E xs (sliceVal (b, o) (length ys) ∷ []))
       → (Is (byte .row) (rowRefusal ys) (byte .val (rowRefusal ys) ∷ []) → Holds (hasTy (byte .ty) (byte .val (rowRefusal ys))) × WT (byte .val (rowRefusal ys))
       → Seq K W (‵ (MutSlice (named 0) κ (device .row) .own (ref γ b o ys) (slice-vals (ref γ b o ys))) ∷ ‵ (flft κ q) ∷ Γ) (lands C Λ E d (byte .val (rowRefusal ys)) rest p))

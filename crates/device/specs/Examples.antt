@@ -1,10 +1,14 @@
--- Believed: document 01, "Bench examples", those of one driver, and more by its headings: what the definitions give beside what the document says.
+-- Believed: document 01, "Bench examples", those of one driver, and more by its headings, and document 02, request 8: what the definitions give beside
+-- what the documents say.
 -- Assumes nothing.
 use Prim.Native.Nat.{ℕ, _/_, _%_}
 use mathlib.Core.List.{List, [], _∷_, map}
+use Rattle.ground.specs.Choice.{if}
 use Rattle.ground.specs.Lists.{Agree}
-use Rattle.device.specs.PowerUp.{powerUp}
+use Rattle.device.specs.Record.{withPins, withMark, withCommand, withFamily}
+use Rattle.device.specs.PowerUp.{powerUp, powerUp6957}
 use Rattle.device.specs.Taken.{taken}
+use Rattle.device.specs.Families.{takes, pinned, interruptOf, soundRecord}
 use Rattle.device.specs.Steps.{scanned, clocked}
 use Rattle.device.specs.Table15.{afterWords, full}
 use Rattle.device.specs.declared.Device.{Device}
@@ -12,7 +16,7 @@ use Rattle.device.specs.declared.Device.{Device}
 -- what a driver alone on the wire answers to words: the shift word that each finds
 abbrev pub answers : Device → List ℕ → List ℕ
 answers d [] = []
-answers d (w ∷ ws) = d .shift ∷ answers (taken d w) ws
+answers d (w ∷ ws) = d .shift ∷ answers (takes d w) ws
 
 -- the debounced keys of group A as the word 8800 reads them after each scan of that group
 abbrev pub reports : Device → List ℕ → List ℕ
@@ -85,8 +89,29 @@ keyRows =
     ∷ (found (taken (twice (afterWords powerUp (0x0680 ∷ 0x0801 ∷ []))) 0x8900) (0x8500 ∷ 0x8800 ∷ 0x8900 ∷ []), 0 ∷ 1 ∷ 0 ∷ [])
     ∷ []
 
--- what the definitions give is what the document says
+-- request 8: a MAX6957 that watches P24, its pin low
+abbrev pub watching : Device
+watching = takes (takes powerUp6957 0x0601) 0x0481
+
+-- request 8, of a MAX6957
+abbrev pub familyRows : List (List ℕ × List ℕ)
+familyRows =
+    -- it obeys by 004: global current of four bits, 0x20 no port, the mark of a read
+    (answers powerUp6957 (0x02F3 ∷ 0x8200 ∷ 0x2007 ∷ 0xA000 ∷ 0x0000 ∷ []), 0x0000 ∷ 0x02F3 ∷ 0x8203 ∷ 0x2007 ∷ 0xA000 ∷ [])
+    ∷ (map (λ w. takes powerUp6957 w .«answer_mark») (0x8200 ∷ 0x0203 ∷ []), 1 ∷ 0 ∷ [])
+    -- pin levels of P24 raise INT, and a read of the mask clears it; a driver of the old family is not a MAX6957
+    ∷ (map interruptOf (watching ∷ pinned watching 0x100000 ∷ takes (pinned watching 0x100000) 0x8600 ∷ []), 0 ∷ 1 ∷ 0 ∷ [])
+    ∷ (powerUp .family ∷ powerUp6957 .family ∷ [], 0 ∷ 1 ∷ [])
+    -- sound by its own fields and the answer mark; of an unknown family nothing is tested
+    ∷ (
+      map (λ d. if (soundRecord d) 1 0) (withMark powerUp6957 2 ∷ withCommand powerUp6957 128 ∷ withPins powerUp6957 32 ∷ withFamily (withMark powerUp 2) 2 ∷ withPins powerUp 32 ∷ []),
+      0 ∷ 1 ∷ 1 ∷ 1 ∷ 0 ∷ [],
+    )
+    ∷ []
+
+-- what the definitions give is what the documents say
 pub record Examples : Type 0 where
   pub bench : Agree rows
   pub registers : Agree registerRows
   pub keys : Agree keyRows
+  pub families : Agree familyRows

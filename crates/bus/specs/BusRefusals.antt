@@ -1,4 +1,4 @@
--- Believed: document 02, request 3: "Refusals: 10 two parts with one address, after 7; 11 address above 127, after 10". A start, a byte, a stop may give 1, 7, 10, 11; request 8: and then 14, where any part is no MAX6955.
+-- Believed: document 02, request 3: "Refusals: 10 two parts with one address, after 7; 11 address above 127, after 10". A start, a byte, a stop may give 1, 7, 10, 11; request 8: and then 14, where any part isn't of the old family.
 -- Assumes nothing.
 use Prim.Native.Nat.{ℕ}
 use mathlib.Core.Bool.{Bool, _&&_}

@@ -30,7 +30,7 @@ pub data Question : Type 0 where
   answerMark : Question
   -- one plane byte after a list of the driver's words: plane, digit, the words (document 02, request 9)
   lookBack : ℕ → ℕ → List ℕ → Question
-  -- what each of P4 to P31 of a MAX6957 shows (document 02, request 8)
+  -- what each of P4 to P31 of a MAX6957 drives (document 02, request 8)
   ports : Question
 
 -- what a whole chain is asked: no driver is named, and no record changes

@@ -457,7 +457,7 @@ pub fn look_back_refusal(plane: usize, digit: usize, words: &[u16]) -> u32
     display(6)
 }
 
-// What the ports show: the old family lacks it.
+// What the ports drive: the old family lacks it.
 pub fn ports_refusal() -> u32
     ensures { λ r. ⌜ r ≡ questionOwn ports ⌝ }
 {

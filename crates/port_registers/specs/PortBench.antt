@@ -1,9 +1,13 @@
--- Believed: document 02, request 8, by 004: worked examples of one MAX6957, by what its words answer and by INT.
+-- Believed: document 02, request 8, by 004: worked examples of one MAX6957, by what its words answer, by INT and by the width of each field.
 -- Assumes nothing.
 use Prim.Native.Nat.{ℕ}
 use mathlib.Core.List.{List, [], _∷_, map}
+use lib.ListN.{replicate}
+use Rattle.ground.specs.Choice.{if}
 use Rattle.ground.specs.Lists.{Agree}
+use Rattle.port_registers.specs.PortRecord.{withStored, withPins, withPairs, withCurrents, withGlobal, withTest, withConfig, withTransition}
 use Rattle.port_registers.specs.PortPowerUp.{powerUp}
+use Rattle.port_registers.specs.PortSound.{soundPorts}
 use Rattle.port_registers.specs.PortTaken.{taken, shiftWord, PortStep, takes, given, stepped, after}
 use Rattle.port_registers.specs.declared.PortRegisters.{PortRegisters}
 
@@ -75,7 +79,31 @@ intRows =
     ∷ (int watching (takes 0x0401 ∷ given 0x100000 ∷ []), 0 ∷ 0 ∷ [])
     ∷ []
 
+-- 1 where a record is sound
+abbrev pub sound : List PortRegisters → List ℕ
+sound xs = map (λ x. if (soundPorts x) 1 0) xs
+
+-- the configuration bits with these values
+abbrev pub bits : ℕ → ℕ → ℕ → PortRegisters
+bits m i s = withConfig powerUp (record { m = m; i = i; s = s })
+
+-- transition detection with these
+abbrev pub detection : ℕ → ℕ → ℕ → ℕ → PortRegisters
+detection mask snapshot detecting interrupt = withTransition powerUp (record { mask = mask; snapshot = snapshot; detecting = detecting; interrupt = interrupt })
+
+-- each field at its greatest, and then one by one above it
+abbrev pub soundRows : List (List ℕ × List ℕ)
+soundRows = (
+  sound (withStored powerUp 0xFFFFFFF ∷ withPins powerUp 0xFFFFFFF ∷ withGlobal powerUp 15 ∷ withTest powerUp 1 ∷ bits 1 1 1 ∷ detection 127 127 1 1 ∷ withPairs powerUp (replicate 7 255) ∷ withCurrents powerUp (replicate 14 255) ∷ []),
+  replicate 8 1,
+)
+    ∷ (sound (withStored powerUp 0x10000000 ∷ withPins powerUp 0x10000000 ∷ withGlobal powerUp 16 ∷ withTest powerUp 2 ∷ []), replicate 4 0)
+    ∷ (sound (bits 2 0 0 ∷ bits 0 2 0 ∷ bits 0 0 2 ∷ []), replicate 3 0)
+    ∷ (sound (detection 128 0 0 0 ∷ detection 0 128 0 0 ∷ detection 0 0 2 0 ∷ detection 0 0 0 2 ∷ []), replicate 4 0)
+    ∷ []
+
 -- what the definitions give is what 004 says
 pub record PortBench : Type 0 where
   pub answers : Agree rows
   pub interrupts : Agree intRows
+  pub widths : Agree soundRows

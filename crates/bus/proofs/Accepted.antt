@@ -1,6 +1,6 @@
 -- What a call's number says, and what the call does by it.
 -- Assumes nothing.
-use Rattle.ground.proofs.Names.{ℕ, _<_, arith, Bool, true, false, _&&_, List, [], _∷_, _≡_, refl, eqb, ltb, length, take, eqb-true, ltb-true, if, and-right, passed}
+use Rattle.ground.proofs.Names.{ℕ, _<_, arith, Bool, true, false, _&&_, List, [], _∷_, _≡_, refl, sym, eqb, leb, ltb, length, take, eqb-true, ltb-true, if, and-right, passed}
 use Rattle.device.specs.Families.{families}
 use Rattle.device.specs.declared.Device.{Device}
 use Rattle.refusals.specs.Refusals.{chainRefusal, soundRefusal, clashRefusal, addressRefusal, familyRefusal}
@@ -9,13 +9,13 @@ use Rattle.calls.proofs.Accepted.{each-zero}
 use Rattle.bus.specs.declared.Bus.{Bus}
 use Rattle.bus.specs.Straps.{distinct, sevenBits}
 use Rattle.bus.specs.States.{stateOf, busOf, soundBus}
-use Rattle.bus.specs.BusCalls.{BusCall, start, put, get, stop, give, ask}
+use Rattle.bus.specs.BusCalls.{BusCall, start, put, get, stop, give, ask, onBus}
 use Rattle.bus.specs.BusRefusals.{wireRefusal, soundFor}
 use Rattle.bus.specs.BusOutcome.{number, busAfter, partsAfter, reply}
 use Rattle.bus.specs.BusServed.{next, served, givenBack, refusedBack}
 use Rattle.bus.specs.BusIsolation.{refusalAlone, accepted}
 use Rattle.bus.proofs.Straps.{Served}
-use Rattle.bus.proofs.States.{Named, state-named, state-bus, bus-sound, next-named}
+use Rattle.bus.proofs.States.{Named, bus-state, state-named, state-bus, bus-sound, next-named}
 
 -- what the number 0 says of a start, a byte, a stop
 pub wire-says : (n : ℕ) (fs : List ℕ) (sound : Bool) (σ : List ℕ) → wireRefusal n fs sound σ ≡ 0 → (sound ≡ true) × Served n σ
@@ -44,6 +44,15 @@ sound-for stop b ds s t = rw (s, t)
 sound-for (give j x) b ds s t = s
 sound-for (ask j x) b ds s t = s
 
+-- a call that takes no bus state leaves what a sound one stands for
+on-bus : (n : ℕ) (σ : List ℕ) (q : BusCall) (b : Bus) → b .phase < 3 → (a : Bool) → if (onBus q && a) (busOf (next n σ q (stateOf b))) b ≡ if a (busOf (next n σ q (stateOf b))) b
+on-bus n σ start b h a = refl
+on-bus n σ (put v) b h a = refl
+on-bus n σ get b h a = refl
+on-bus n σ stop b h a = refl
+on-bus n σ (give j x) b h a = elim a as (λ t. b ≡ if t (busOf (stateOf b)) b) [ true ↦ sym (bus-state b h) | false ↦ refl ]
+on-bus n σ (ask j x) b h a = elim a as (λ t. b ≡ if t (busOf (stateOf b)) b) [ true ↦ sym (bus-state b h) | false ↦ refl ]
+
 -- n sound records of these families and a sound bus state
 pub record Sound (n : ℕ) (fs : List ℕ) (b : Bus) (ds : List Device) : Type 0 where
   pub count : length ds ≡ n
@@ -60,7 +69,7 @@ module _ {n : ℕ} {fs : List ℕ} (σ : List ℕ) (q : BusCall) {b : Bus} {ds :
   -- accepted it is served, refused it changes nothing
   pub bus-by : busAfter σ q b ds ≡ if (accepted n fs σ q) (busOf (next n σ q (stateOf b))) b
   unfolding busAfter
-  bus-by = rw (number-alone, w .count)
+  bus-by = rw (number-alone, w .count) (on-bus n σ q b (ltb-true (b .phase) 3 (and-right (leb (b .part) n) (ltb (b .phase) 3) (w .bus))) (accepted n fs σ q))
 
   pub parts-by : partsAfter σ q b ds ≡ if (accepted n fs σ q) (served q (stateOf b) ds) ds
   unfolding partsAfter

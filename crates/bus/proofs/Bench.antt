@@ -7,11 +7,15 @@ use Rattle.bus.specs.Straps.{placeOf, distinct, sevenBits}
 use Rattle.device.specs.TwoWire.{commanded, received, sentData, sent}
 use Rattle.bus.specs.BusOutcome.{number, busAfter, partsAfter, reply}
 use Rattle.bus.specs.BusLists.{busAll, partsAll, replies}
-use Rattle.bus.specs.BusExamples.{rows, numberRows, refusedRows, BusExamples}
+use Rattle.bus.specs.BusExamples.{rows, strapRows, numberRows, refusedRows, BusExamples}
 
 bench-examples : Agree rows
 unfolding familiesBelow soundRecord pinned allSound placeOf distinct sevenBits commanded received sentData sent number busAfter partsAfter reply busAll partsAll replies
 bench-examples = refl
+
+bench-straps : Agree strapRows
+unfolding familiesBelow soundRecord pinned allSound placeOf distinct sevenBits commanded received sentData sent number busAfter partsAfter reply busAll partsAll replies
+bench-straps = refl
 
 bench-numbers : Agree numberRows
 unfolding familiesBelow soundRecord pinned allSound placeOf distinct sevenBits commanded received sentData sent number busAfter partsAfter reply busAll partsAll replies
@@ -22,4 +26,4 @@ unfolding familiesBelow soundRecord pinned allSound placeOf distinct sevenBits c
 bench-refused = refl
 
 pub bench : BusExamples
-bench = record { examples = bench-examples; numbers = bench-numbers; refused = bench-refused }
+bench = record { examples = bench-examples; addresses = bench-straps; numbers = bench-numbers; refused = bench-refused }

@@ -8,20 +8,20 @@ use Rattle.calls.specs.CallRefusals.{allSound}
 use Rattle.bus.specs.declared.Bus.{Bus}
 use Rattle.bus.specs.Straps.{strapOf, matched}
 use Rattle.bus.specs.States.{Use, command, writing, reading, State, idle, slave, unmatched, transfer, freeAt, useAt, stateOf, busOf, soundBus}
-use Rattle.bus.specs.BusCalls.{BusCall, put, get}
+use Rattle.bus.specs.BusCalls.{BusCall, put, get, onBus}
 use Rattle.bus.specs.BusRefusals.{wireRefusal}
 use Rattle.bus.specs.BusOutcome.{number, busAfter, partsAfter, reply}
 use Rattle.bus.specs.BusServed.{opened, slaveReply, next, served, givenBack}
 use Rattle.bus.specs.Acknowledged.{Nobody, Byte}
 use Rattle.bus.proofs.Straps.{Served, match-own, matches, match-le}
-use Rattle.bus.proofs.States.{free-all}
+use Rattle.bus.proofs.States.{free-all, bus-state}
 use Rattle.bus.proofs.Accepted.{wire-says}
 
 -- a call with the number 0 is served
-module _ (σ : List ℕ) (q : BusCall) (b : Bus) (ds : List Device) (z : number σ q b ds ≡ 0) (s : State) (e : stateOf b ≡ s) where
+module _ (σ : List ℕ) (q : BusCall) (b : Bus) (ds : List Device) (t : onBus q ≡ true) (z : number σ q b ds ≡ 0) (s : State) (e : stateOf b ≡ s) where
   served-by : (reply σ q b ds ≡ givenBack (length ds) σ q s ds) × (partsAfter σ q b ds ≡ served q s ds) × (busAfter σ q b ds ≡ busOf (next (length ds) σ q s))
   unfolding reply partsAfter busAfter
-  served-by = rw z (rw e (refl, refl, refl))
+  served-by = rw (t, z) (rw e (refl, refl, refl))
 
 -- what a bus state stands for, by its numbers
 use-write : (P : Use → Type 0) → P command → P writing → (p : ℕ) → p < 2 → P (useAt p)
@@ -34,20 +34,6 @@ state-part b h = rw (ne-eqb (b .part) 0 (λ e. omega arith))
 
 pub state-free : (b : Bus) → b .part ≡ 0 → stateOf b ≡ freeAt (b .phase)
 state-free b e = rw (eq-eqb (b .part) 0 e)
-
--- there and back
-bus-at : (k p : ℕ) → p < 3 → (busOf (freeAt p) ≡ record { part = 0; phase = p }) × (busOf (transfer k (useAt p)) ≡ record { part = k; phase = p })
-bus-at k zero h = (refl, refl)
-bus-at k (suc zero) h = (refl, refl)
-bus-at k (suc (suc zero)) h = (refl, refl)
-bus-at k (suc (suc (suc p))) h = absurd (omega arith)
-
-pub bus-state : (b : Bus) → b .phase < 3 → busOf (stateOf b) ≡ b
-bus-state b h = go (eqb (b .part) 0) refl
-  where
-    go : (t : Bool) → eqb (b .part) 0 ≡ t → busOf (if t (freeAt (b .phase)) (transfer (b .part) (useAt (b .phase)))) ≡ b
-    go true e = bus-at 0 (b .phase) h .0 ∙ ap (λ (k : ℕ). record { part = k; phase = b .phase }) (sym (eqb-true (b .part) 0 e))
-    go false e = bus-at (b .part) (b .phase) h .1
 
 -- a byte that nobody takes, by the state: it reads 255, and nothing changes
 abbrev Quiet : ℕ → List ℕ → BusCall → List Device → State → Type 0
@@ -65,9 +51,9 @@ module _ (σ : List ℕ) (b : Bus) (ds : List Device) (sixteen : length σ ≡ 1
       let w = wire-says (length ds) (families ds) (allSound ds && soundBus (length ds) b) σ z in
       (w .1, ltb-true (b .phase) 3 (and-right (leb (b .part) (length ds)) (ltb (b .phase) 3) (and-right (allSound ds) (soundBus (length ds) b) (w .0))))
 
-  quiet : (q : BusCall) → number σ q b ds ≡ 0 → b .phase < 3 → (s : State) → stateOf b ≡ s → Quiet (length ds) σ q ds s → Nobody σ q b ds b
-  quiet q z h s e w =
-      let r = served-by σ q b ds z s e in
+  quiet : (q : BusCall) → onBus q ≡ true → number σ q b ds ≡ 0 → b .phase < 3 → (s : State) → stateOf b ≡ s → Quiet (length ds) σ q ds s → Nobody σ q b ds b
+  quiet q t z h s e w =
+      let r = served-by σ q b ds t z s e in
       record { reads = r .0 ∙ w .0; same-parts = r .1 ∙ w .1; bus-left = r .2 ∙ ap busOf (w .2 ∙ sym e) ∙ bus-state b h }
 
   slave-none : (n v : ℕ) → Served n σ → ((k : ℕ) → 1 ≤ k → k ≤ n → strapOf σ k ≡ v / 2 → ⊥) → matched n σ v ≡ 0
@@ -84,32 +70,32 @@ module _ (σ : List ℕ) (b : Bus) (ds : List Device) (sixteen : length σ ≡ 1
   acknowledged =
       record {
         slave-matched = λ v k z e f h g m.
-            let r = served-by σ (put v) b ds z slave (rw (e, f)) in
+            let r = served-by σ (put v) b ds refl z slave (rw (e, f)) in
             let x = matches sixteen (byte-sound z .0) v k h g m in
             let opens = elim (odd v) as (λ t. busOf (transfer k (if t reading command)) ≡ record { part = k; phase = if t 2 0 }) [ true ↦ refl | false ↦ refl ] in
             (r .0 ∙ rw x (slave-taken k v h .1), r .1, r .2 ∙ rw x (ap busOf (slave-taken k v h .0) ∙ opens));
         slave-unmatched = λ v z e f m.
-            let r = served-by σ (put v) b ds z slave (rw (e, f)) in
+            let r = served-by σ (put v) b ds refl z slave (rw (e, f)) in
             let x = slave-none (length ds) v (byte-sound z .0) m in
             record { reads = r .0 ∙ rw x; same-parts = r .1; bus-left = r .2 ∙ rw x };
         written = λ v z h f.
-            let r = served-by σ (put v) b ds z _ (state-part b h) in (
+            let r = served-by σ (put v) b ds refl z _ (state-part b h) in (
               r .0 ∙ use-write (λ (u : Use). givenBack (length ds) σ (put v) (transfer (b .part) u) ds ≡ 1 ∷ 0 ∷ []) refl refl (b .phase) f,
               r .2 ∙ use-write (λ (u : Use). busOf (next (length ds) σ (put v) (transfer (b .part) u)) ≡ record { part = b .part; phase = 1 }) refl refl (b .phase) f,
             );
         read = λ z h f.
-            let r = served-by σ get b ds z (transfer (b .part) reading) (state-part b h ∙ rw f) in
+            let r = served-by σ get b ds refl z (transfer (b .part) reading) (state-part b h ∙ rw f) in
             (ap (λ (xs : List ℕ). getD xs 0 0) (r .0), r .2 ∙ ap (λ (p : ℕ). record { part = b .part; phase = p }) (sym f));
         given-idle = λ v z e f.
-            quiet (put v) z (byte-sound z .1) (if (eqb (b .phase) 0) idle unmatched) (state-free b e ∙ rw (ne-eqb (b .phase) 1 f))
+            quiet (put v) refl z (byte-sound z .1) (if (eqb (b .phase) 0) idle unmatched) (state-free b e ∙ rw (ne-eqb (b .phase) 1 f))
             (elim (eqb (b .phase) 0) as (λ t. Quiet (length ds) σ (put v) ds (if t idle unmatched)) [ true ↦ (refl, refl, refl) | false ↦ (refl, refl, refl) ]);
         given-in-read = λ v z h f.
-            quiet (put v) z (byte-sound z .1) (transfer (b .part) reading) (state-part b h ∙ rw f) (refl, set-getD ds (b .part - 1) powerUp, refl);
+            quiet (put v) refl z (byte-sound z .1) (transfer (b .part) reading) (state-part b h ∙ rw f) (refl, set-getD ds (b .part - 1) powerUp, refl);
         asked-none = λ z e.
-            quiet get z (byte-sound z .1) _ (state-free b e)
+            quiet get refl z (byte-sound z .1) _ (state-free b e)
             (free-all (Quiet (length ds) σ get ds) (refl, refl, refl) (refl, refl, refl) (refl, refl, refl) (b .phase));
         asked-in-write = λ z h f.
             let same = set-getD ds (b .part - 1) powerUp in
-            quiet get z (byte-sound z .1) _ (state-part b h)
+            quiet get refl z (byte-sound z .1) _ (state-part b h)
             (use-write (λ (u : Use). Quiet (length ds) σ get ds (transfer (b .part) u)) (refl, same, refl) (refl, same, refl) (b .phase) f);
       }

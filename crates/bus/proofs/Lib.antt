@@ -1,5 +1,6 @@
 pub mod Straps
 pub mod States
+pub mod Kept
 pub mod Accepted
 pub mod Sound
 pub mod Turns

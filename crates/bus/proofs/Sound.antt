@@ -1,9 +1,7 @@
 -- Calls on the bus leave sound records.
 -- Assumes nothing.
-use Rattle.ground.proofs.Names.{ℕ, _-_, Bool, true, false, List, [], _∷_, _≡_, refl, _∙_, length, length-set, map-set-same, eqb-true, if}
+use Rattle.ground.proofs.Names.{ℕ, _-_, Bool, true, false, List, [], _∷_, _≡_, refl, _∙_, length, length-set, eqb-true, if}
 use Rattle.device.specs.Families.{families, soundRecord}
-use Rattle.device.specs.PowerUp.{powerUp}
-use Rattle.device.specs.TwoWire.{commanded, received, sent}
 use Rattle.device.specs.declared.Device.{Device}
 use Rattle.device.proofs.Families.{both-families}
 use Rattle.calls.specs.Calls.{give as giveChain}
@@ -20,6 +18,7 @@ use Rattle.bus.specs.BusOutcome.{busAfter, partsAfter}
 use Rattle.bus.specs.BusLists.{busAll, partsAll}
 use Rattle.bus.specs.BusIsolation.{accepted}
 use Rattle.bus.specs.BusSoundness.{BusSoundness}
+use Rattle.bus.proofs.Kept.{same-served, given-family, asked-family}
 use Rattle.bus.proofs.Accepted.{Sound, parts-by, bus-kept}
 
 given-sound : (u : Use) (v : ℕ) (d : Device) → soundRecord d ≡ true → soundRecord (given u v d) ≡ true
@@ -33,37 +32,7 @@ asked-sound writing d e = e
 asked-sound reading d e = both-families .sound .after-sent d e
 
 -- a served call leaves as many records as it found, all sound
-given-family : (u : Use) (v : ℕ) (d : Device) → given u v d .family ≡ d .family
-unfolding commanded received
-given-family command v d = refl
-given-family writing v d = refl
-given-family reading v d = refl
-
-asked-family : (u : Use) (d : Device) → asked u d .family ≡ d .family
-unfolding sent
-asked-family command d = refl
-asked-family writing d = refl
-asked-family reading d = refl
-
 module _ {n : ℕ} {fs : List ℕ} (σ : List ℕ) (ds : List Device) (l : length ds ≡ n) (kinds : families ds ≡ fs) (e : allSound ds ≡ true) where
-  set-family : (k : ℕ) (d : Device) → d .family ≡ recordOf ds k .family → families (withRecord ds k d) ≡ fs
-  set-family k d p = map-set-same (λ (x : Device). x .family) ds (k - 1) d powerUp p ∙ kinds
-
-  -- and their families
-  served-families : (q : BusCall) (s : State) → families (served q s ds) ≡ fs
-  served-families start s = kinds
-  served-families (put v) idle = kinds
-  served-families (put v) slave = kinds
-  served-families (put v) unmatched = kinds
-  served-families (put v) (transfer k u) = set-family k _ (given-family u v (recordOf ds k))
-  served-families get idle = kinds
-  served-families get slave = kinds
-  served-families get unmatched = kinds
-  served-families get (transfer k u) = set-family k _ (asked-family u (recordOf ds k))
-  served-families stop s = kinds
-  served-families (give j x) s = set-family j _ (same-family x (recordOf ds j))
-  served-families (ask j x) s = kinds
-
   set-sound : (k : ℕ) (d : Device) → soundRecord d ≡ true → (length (withRecord ds k d) ≡ n) × (allSound (withRecord ds k d) ≡ true)
   set-sound k d s = (length-set ds _ _ ∙ l, sound-set ds (k - 1) d e s)
 
@@ -93,7 +62,7 @@ sound-after {n} {fs} σ q {b} {ds} w =
     go false a = (w .count, w .records)
 
     kept : (a : Bool) → families (if a (served q (stateOf b) ds) ds) ≡ fs
-    kept true = served-families σ ds (w .count) (w .kinds) (w .records) q (stateOf b)
+    kept true = same-served (λ d. d .family) given-family asked-family same-family q (stateOf b) ds ∙ w .kinds
     kept false = w .kinds
 
 pub sound-all : {n : ℕ} {fs : List ℕ} (σ : List ℕ) (qs : List BusCall) {b : Bus} {ds : List Device} → Sound n fs b ds → Sound n fs (busAll σ qs b ds) (partsAll σ qs b ds)

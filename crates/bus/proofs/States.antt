@@ -1,6 +1,6 @@
 -- Bus states and what they stand for.
 -- Assumes nothing.
-use Rattle.ground.proofs.Names.{ℕ, zero, suc, _≤_, arith, Bool, true, false, List, _≡_, refl, eqb, leb, ltb, eqb-false, ne-eqb, leb-true, le-leb, if, and-left}
+use Rattle.ground.proofs.Names.{ℕ, zero, suc, _≤_, _<_, arith, Bool, true, false, List, _≡_, refl, sym, ap, _∙_, eqb, leb, ltb, eqb-true, eqb-false, ne-eqb, leb-true, le-leb, if, and-left}
 use Rattle.bus.specs.declared.Bus.{Bus}
 use Rattle.bus.specs.Straps.{matched}
 use Rattle.bus.specs.States.{Use, command, writing, reading, State, idle, slave, unmatched, transfer, freeAt, useAt, stateOf, phaseOf, busOf, soundBus}
@@ -40,6 +40,19 @@ use-phase writing = (refl, refl)
 use-phase reading = (refl, refl)
 
 -- there and back
+bus-at : (k p : ℕ) → p < 3 → (busOf (freeAt p) ≡ record { part = 0; phase = p }) × (busOf (transfer k (useAt p)) ≡ record { part = k; phase = p })
+bus-at k zero h = (refl, refl)
+bus-at k (suc zero) h = (refl, refl)
+bus-at k (suc (suc zero)) h = (refl, refl)
+bus-at k (suc (suc (suc p))) h = absurd (omega arith)
+
+pub bus-state : (b : Bus) → b .phase < 3 → busOf (stateOf b) ≡ b
+bus-state b h = go (eqb (b .part) 0) refl
+  where
+    go : (t : Bool) → eqb (b .part) 0 ≡ t → busOf (if t (freeAt (b .phase)) (transfer (b .part) (useAt (b .phase)))) ≡ b
+    go true e = bus-at 0 (b .phase) h .0 ∙ ap (λ (k : ℕ). record { part = k; phase = b .phase }) (sym (eqb-true (b .part) 0 e))
+    go false e = bus-at (b .part) (b .phase) h .1
+
 pub state-bus : (n : ℕ) (s : State) → Named n s → stateOf (busOf s) ≡ s
 state-bus n idle h = refl
 state-bus n slave h = refl

@@ -10,8 +10,7 @@ use Rattle.device.specs.declared.Device.{Device}
 use Rattle.bus.specs.declared.Bus.{Bus}
 use Rattle.bus.specs.Straps.{strapOf}
 use Rattle.bus.specs.BusCalls.{BusCall, put, get}
-use Rattle.bus.specs.BusOutcome.{number}
-use Rattle.bus.specs.BusOutcome.{busAfter, partsAfter, reply}
+use Rattle.bus.specs.BusOutcome.{number, busAfter, partsAfter, reply}
 
 -- a byte that is not acknowledged reads 255 and changes no record
 pub record Nobody (σ : List ℕ) (q : BusCall) (b : Bus) (ds : List Device) (left : Bus) : Type 0 where

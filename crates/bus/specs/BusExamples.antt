@@ -154,18 +154,29 @@ rows =
     )
     ∷ []
 
--- the numbers of the four calls
-abbrev pub numberRows : List (List ℕ × List ℕ)
-numberRows =
-    -- 11: numbers: 10 two parts with one address, also above 127; 11 an address above 127
+-- the numbers of the four calls by the straps
+abbrev pub strapRows : List (List ℕ × List ℕ)
+strapRows =
+    -- 11: numbers: 10 two parts with one address, neighbours or not, also above 127; 11 an address above 127
     (numbersOf (straps (0x60 ∷ 0x60 ∷ [])) (busOf idle) (freshChain 2), 10 ∷ 10 ∷ 10 ∷ 10 ∷ [])
+    ∷ (numbersOf (straps (0x60 ∷ 0x61 ∷ 0x60 ∷ [])) (busOf idle) (freshChain 3), 10 ∷ 10 ∷ 10 ∷ 10 ∷ [])
     ∷ (numbersOf (straps (0xC8 ∷ 0xC8 ∷ [])) (busOf idle) (freshChain 2), 10 ∷ 10 ∷ 10 ∷ 10 ∷ [])
     ∷ (numbersOf (straps (0x60 ∷ 0xE0 ∷ [])) (busOf idle) (freshChain 2), 11 ∷ 11 ∷ 11 ∷ 11 ∷ [])
-    ∷ (numbersOf (straps (0x60 ∷ 0x61 ∷ [])) (record { part = 3; phase = 1 }) (freshChain 2), 7 ∷ 7 ∷ 7 ∷ 7 ∷ [])
+    ∷ (numbersOf (straps (0x7F ∷ [])) (busOf idle) (freshChain 1), 0 ∷ 0 ∷ 0 ∷ 0 ∷ [])
+    ∷ (numbersOf (straps (0x80 ∷ [])) (busOf idle) (freshChain 1), 11 ∷ 11 ∷ 11 ∷ 11 ∷ [])
+    -- the first n straps count
+    ∷ (numbersOf (0x60 ∷ 0x60 ∷ 0xFF ∷ replicate 13 0xFF) (busOf idle) (freshChain 1), 0 ∷ 0 ∷ 0 ∷ 0 ∷ [])
+    ∷ []
+
+-- and by the records and the bus state
+abbrev pub numberRows : List (List ℕ × List ℕ)
+numberRows =
+    (numbersOf (straps (0x60 ∷ 0x61 ∷ [])) (record { part = 3; phase = 1 }) (freshChain 2), 7 ∷ 7 ∷ 7 ∷ 7 ∷ [])
     ∷ (numbersOf (straps (0x60 ∷ 0x61 ∷ [])) (busOf idle) (freshChain 0), 1 ∷ 1 ∷ 1 ∷ 1 ∷ [])
     ∷ (numbersOf (straps (0x60 ∷ 0x61 ∷ [])) (busOf idle) (freshChain 17), 1 ∷ 1 ∷ 1 ∷ 1 ∷ [])
-    ∷ (numbersOf (0x60 ∷ 0x60 ∷ 0xFF ∷ replicate 13 0xFF) (busOf idle) (freshChain 1), 0 ∷ 0 ∷ 0 ∷ 0 ∷ [])
     ∷ (numbersOf (straps (0x60 ∷ 0x61 ∷ [])) (record { part = 0; phase = 3 }) (freshChain 2), 7 ∷ 7 ∷ 7 ∷ 7 ∷ [])
+    -- a phase above 2, where a part is named too
+    ∷ (numbersOf (straps (0x60 ∷ 0x61 ∷ [])) (record { part = 1; phase = 3 }) (freshChain 2), 7 ∷ 7 ∷ 7 ∷ 7 ∷ [])
     -- the lowest that applies: 1 and 7, 7 and 10; a record whose command address is 128 isn't sound
     ∷ (numbersOf (straps (0x60 ∷ 0x61 ∷ [])) (record { part = 1; phase = 1 }) [], 1 ∷ 1 ∷ 1 ∷ 1 ∷ [])
     ∷ (numbersOf (straps (0x60 ∷ 0x60 ∷ [])) (record { part = 3; phase = 1 }) (freshChain 2), 7 ∷ 7 ∷ 7 ∷ 7 ∷ [])
@@ -199,5 +210,6 @@ refusedRows =
 -- the two agree in every row
 pub record BusExamples : Type 0 where
   pub examples : Agree rows
+  pub addresses : Agree strapRows
   pub numbers : Agree numberRows
   pub refused : Agree refusedRows

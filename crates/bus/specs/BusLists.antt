@@ -5,8 +5,7 @@ use mathlib.Core.List.{List, [], _∷_}
 use Rattle.device.specs.declared.Device.{Device}
 use Rattle.bus.specs.declared.Bus.{Bus}
 use Rattle.bus.specs.BusCalls.{BusCall}
-use Rattle.bus.specs.BusOutcome.{number}
-use Rattle.bus.specs.BusOutcome.{busAfter, partsAfter, reply}
+use Rattle.bus.specs.BusOutcome.{number, busAfter, partsAfter, reply}
 
 -- the bus state after the list
 unfoldable pub busAll : List ℕ → List BusCall → Bus → List Device → Bus

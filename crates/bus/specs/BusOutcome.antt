@@ -1,6 +1,7 @@
 -- Believed: document 02, request 3, and document 01, "Numbers a call may give": one call on the two-wire bus, its number, the bus state and the records after it, and what it gives back.
 -- Assumes nothing.
 use Prim.Native.Nat.{ℕ}
+use mathlib.Core.Bool.{_&&_}
 use mathlib.Core.List.{List}
 use lib.Dec.{eqb}
 use lib.ListN.{length}
@@ -9,7 +10,7 @@ use Rattle.device.specs.Families.{families}
 use Rattle.device.specs.declared.Device.{Device}
 use Rattle.bus.specs.declared.Bus.{Bus}
 use Rattle.bus.specs.States.{stateOf, busOf}
-use Rattle.bus.specs.BusCalls.{BusCall}
+use Rattle.bus.specs.BusCalls.{BusCall, onBus}
 use Rattle.bus.specs.BusRefusals.{busRefusalBy, soundFor}
 use Rattle.bus.specs.BusServed.{next, served, givenBack, refusedBack}
 
@@ -17,9 +18,9 @@ use Rattle.bus.specs.BusServed.{next, served, givenBack, refusedBack}
 unfoldable pub number : List ℕ → BusCall → Bus → List Device → ℕ
 number σ q b ds = busRefusalBy (length ds) (families ds) (soundFor q b ds) σ q
 
--- the bus state after it; apart from 0 nothing changes
+-- the bus state after it: apart from 0 nothing changes, and a call that takes no bus state leaves it as it was
 unfoldable pub busAfter : List ℕ → BusCall → Bus → List Device → Bus
-busAfter σ q b ds = if (eqb (number σ q b ds) 0) (busOf (next (length ds) σ q (stateOf b))) b
+busAfter σ q b ds = if (onBus q && eqb (number σ q b ds) 0) (busOf (next (length ds) σ q (stateOf b))) b
 
 -- the records after it
 unfoldable pub partsAfter : List ℕ → BusCall → Bus → List Device → List Device

@@ -6,6 +6,8 @@ pub mod BusServed
 pub mod BusOutcome
 pub mod BusLists
 pub mod BusSoundness
+pub mod BusKept
+pub mod ChainCalls
 pub mod Acknowledged
 pub mod Transactions
 pub mod BusIsolation

@@ -3,6 +3,8 @@ ghost use Rattle.bus.specs.BusIsolation.{BusIsolation};
 ghost use Rattle.bus.specs.Acknowledged.{Acknowledged};
 ghost use Rattle.bus.specs.Transactions.{Transactions};
 ghost use Rattle.bus.specs.BusSoundness.{BusSoundness};
+ghost use Rattle.bus.specs.BusKept.{BusKept};
+ghost use Rattle.bus.specs.ChainCalls.{ChainCalls};
 ghost use Rattle.bus.specs.BusExamples.{BusExamples};
 
 #[repr(C)]
@@ -36,6 +38,16 @@ pub fn transactions()
 // A theorem: calls leave sound records and a sound bus state.
 pub fn bus_soundness()
     ensures { λ _. ⌜ BusSoundness ⌝ }
+{}
+
+// A theorem: no list of calls changes an answer mark, a shift word or a fitted byte.
+pub fn bus_kept()
+    ensures { λ _. ⌜ BusKept ⌝ }
+{}
+
+// A theorem: scans, pin levels, clocks and questions of this bus are the chain's calls, and leave the bus state as it was.
+pub fn chain_calls()
+    ensures { λ _. ⌜ ChainCalls ⌝ }
 {}
 
 // A theorem: the worked examples.

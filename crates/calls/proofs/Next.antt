@@ -20,7 +20,7 @@ use Rattle.calls.proofs.Sound.{after-sound}
 use Rattle.calls.proofs.Answered.{taken-at, own-answered}
 
 -- no step touches the shift word
-same-shift : (s : Step) (x : Device) → stepped s x .shift ≡ x .shift
+pub same-shift : (s : Step) (x : Device) → stepped s x .shift ≡ x .shift
 same-shift (scan a b c d) x = refl
 same-shift (levels l) x = pinned-shift x l
 same-shift (clocks k) x = refl

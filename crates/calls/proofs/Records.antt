@@ -11,6 +11,7 @@ use Rattle.wire.specs.Wire.{shifted}
 use Rattle.calls.specs.Served.{recordOf, shiftWords, allTaken, stepped, served}
 use Rattle.calls.specs.Outcome.{number, after}
 use Rattle.calls.specs.CallLists.{afterAll}
+use Rattle.calls.specs.FittedBytes.{FittedBytes}
 
 -- sound records: each is sound
 pub sound-at : (ds : List Device) → allSound ds ≡ true → (k : ℕ) → soundRecord (getD ds k powerUp) ≡ true
@@ -66,20 +67,36 @@ taken-same f e ds ws =
     let b : i < length ds = rw (length-map, length-tabulate) at h in
     List·getD-map f (allTaken ds ws) i powerUp ∙ ap f (getD-tabulate (length ds) _ powerUp i b) ∙ e (getD ds i powerUp) (getD ws i 0) ∙ sym (List·getD-map f ds i powerUp))
 
-families-served : (q : Call) (ds : List Device) → families (served q ds) ≡ families ds
-families-served (access c sent room) ds = taken-same (λ d. d .family) takes-family ds (shifted (shiftWords ds) sent c)
-families-served (give j s) ds = map-set-same (λ (d : Device). d .family) ds (j - 1) _ powerUp (same-family s (recordOf ds j))
-families-served (ask j q) ds = refl
-families-served (askChain q) ds = refl
+-- what neither touches is as it was after any call, and after any list of calls
+module _ (f : Device → ℕ) (by-word : (x : Device) (w : ℕ) → f (takes x w) ≡ f x) (by-step : (s : Step) (x : Device) → f (stepped s x) ≡ f x) where
+  same-after : (q : Call) (ds : List Device) → map f (after q ds) ≡ map f ds
+  unfolding after
+  same-after (access c sent room) ds =
+      elim (eqb (number (access c sent room) ds) 0) as (λ b. map f (if b (served (access c sent room) ds) ds) ≡ map f ds)
+      [ true ↦ taken-same f by-word ds (shifted (shiftWords ds) sent c) | false ↦ refl ]
+  same-after (give j s) ds = given-same f by-step j s ds
+  same-after (ask j q) ds = elim (eqb (number (ask j q) ds) 0) as (λ b. map f (if b ds ds) ≡ map f ds) [ true ↦ refl | false ↦ refl ]
+  same-after (askChain q) ds = elim (eqb (number (askChain q) ds) 0) as (λ b. map f (if b ds ds) ≡ map f ds) [ true ↦ refl | false ↦ refl ]
+
+  same-afterAll : (qs : List Call) (ds : List Device) → map f (afterAll qs ds) ≡ map f ds
+  unfolding afterAll
+  same-afterAll [] ds = refl
+  same-afterAll (q ∷ qs) ds = same-afterAll qs (after q ds) ∙ same-after q ds
 
 pub families-after : (q : Call) (ds : List Device) → families (after q ds) ≡ families ds
-unfolding after
-families-after q ds = elim (eqb (number q ds) 0) as (λ b. families (if b (served q ds) ds) ≡ families ds) [ true ↦ families-served q ds | false ↦ refl ]
+families-after = same-after (λ d. d .family) takes-family same-family
 
 pub families-afterAll : (qs : List Call) (ds : List Device) → families (afterAll qs ds) ≡ families ds
-unfolding afterAll
-families-afterAll [] ds = refl
-families-afterAll (q ∷ qs) ds = families-afterAll qs (after q ds) ∙ families-after q ds
+families-afterAll = same-afterAll (λ d. d .family) takes-family same-family
+
+-- nor does one change a fitted byte
+pub same-fitted : (s : Step) (x : Device) → stepped s x .fitted ≡ x .fitted
+same-fitted (scan a b c d) x = both-families .by-scan x a b c d .fitted
+same-fitted (levels l) x = both-families .by-pins x l .fitted
+same-fitted (clocks k) x = both-families .by-clocks x k .fitted
+
+pub fitted-bytes : FittedBytes
+fitted-bytes = same-afterAll (λ d. d .fitted) (λ x w. both-families .by-word x w .fitted) same-fitted
 
 -- a driver's family by those of the row
 pub family-at : (ds : List Device) (j : ℕ) → familyAt (families ds) j ≡ recordOf ds j .family

@@ -6,5 +6,6 @@ pub mod CallLists
 pub mod Soundness
 pub mod NextAccess
 pub mod AnswerMark
+pub mod FittedBytes
 pub mod Isolation
 pub mod Examples

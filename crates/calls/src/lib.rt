@@ -2,6 +2,7 @@
 ghost use Rattle.calls.specs.Soundness.{Soundness};
 ghost use Rattle.calls.specs.NextAccess.{NextAccess};
 ghost use Rattle.calls.specs.AnswerMark.{AnswerMark};
+ghost use Rattle.calls.specs.FittedBytes.{FittedBytes};
 ghost use Rattle.calls.specs.Isolation.{Isolation};
 ghost use Rattle.calls.specs.Examples.{Examples};
 
@@ -15,9 +16,14 @@ pub fn next_access()
     ensures { λ _. ⌜ NextAccess ⌝ }
 {}
 
-// A theorem: after an accepted access each driver's answer mark is D15 of the word that it took; no other call changes a mark.
+// A theorem: after an accepted access each driver's answer mark is D15 of the word that it took; no other call, and no list of others, changes a mark.
 pub fn answer_mark()
     ensures { λ _. ⌜ AnswerMark ⌝ }
+{}
+
+// A theorem: no list of calls changes a fitted byte.
+pub fn fitted_bytes()
+    ensures { λ _. ⌜ FittedBytes ⌝ }
 {}
 
 // A theorem, demand 3: after any list of calls each driver is as it would be alone.

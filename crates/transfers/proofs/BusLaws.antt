@@ -19,8 +19,8 @@ use Rattle.bus.specs.BusCalls.{start, put, get, stop}
 use Rattle.bus.specs.BusRefusals.{wireRefusal}
 use Rattle.bus.specs.BusServed.{given, asked, served, nobody, putReply, askedReply, givenBack}
 use Rattle.bus.specs.BusOutcome.{number, busAfter, partsAfter, reply, BusOutcome, busOutcome}
-use Rattle.bus.proofs.States.{free-all}
-use Rattle.bus.proofs.Bytes.{state-part, state-free, bus-state}
+use Rattle.bus.proofs.States.{free-all, bus-state}
+use Rattle.bus.proofs.Bytes.{state-part, state-free}
 use Rattle.pass.specs.Found.{rowRefusal}
 use Rattle.transfers.specs.Transfers.{refusalFrom, moved, partOpen, putAnswer, writeFree, readFree, readOpen}
 use Rattle.transfers.specs.declared.BusAnswer.{BusAnswer}

@@ -1,3 +1,4 @@
+pub mod Masks
 pub mod WidthLaws
 pub mod SeenLaws
 pub mod OwnLaws

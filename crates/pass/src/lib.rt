@@ -107,27 +107,27 @@ impl Widths {
     pub fn fit(self) -> bool
         ensures { λ r. ⌜ r ≡ fit self ⌝ }
     {
-        let controls = (self.first / 1 % 256 < 16)
-            & (self.first / 256 % 256 < 8)
-            & (self.first / 65536 % 256 < 32)
-            & (self.first / 4294967296 % 256 < 2);
-        let config = (self.first / 281474976710656 % 256 < 2)
-            & (self.first / 72057594037927936 % 256 < 2)
-            & (self.last / 1 % 256 < 2)
-            & (self.last / 256 % 256 < 2);
+        let controls = ((self.first & 255) < 16)
+            & (((self.first >> 8) & 255) < 8)
+            & (((self.first >> 16) & 255) < 32)
+            & (((self.first >> 32) & 255) < 2);
+        let config = (((self.first >> 48) & 255) < 2)
+            & (((self.first >> 56) & 255) < 2)
+            & ((self.last & 255) < 2)
+            & (((self.last >> 8) & 255) < 2);
         let registers = controls
             & config
             & (self.interrupt < 2)
             & (self.pins < 32)
             & (self.blink < 4000000);
-        registers & (self.ends / 256 % 256 < 2) & (self.ends / 65536 % 256 < 128)
+        registers & (((self.ends >> 8) & 255) < 2) & (((self.ends >> 16) & 255) < 128)
     }
 
     // Whether every record was of the old family.
     pub fn old(self) -> bool
         ensures { λ r. ⌜ r ≡ allOld self ⌝ }
     {
-        self.ends / 16777216 % 256 < 1
+        ((self.ends >> 24) & 255) < 1
     }
 }
 
@@ -206,13 +206,13 @@ impl Seen {
         ensures { λ r. ⌜ r ≡ seenFit self ⌝ }
     {
         let levels = (self.stored < 268435456) & (self.pins < 268435456);
-        let controls = levels & (self.first / 1 % 256 < 16) & (self.first / 256 % 256 < 2);
-        let config = (self.first / 65536 % 256 < 2)
-            & (self.first / 16777216 % 256 < 2)
-            & (self.first / 4294967296 % 256 < 2);
-        let transition = (self.first / 1099511627776 % 256 < 128)
-            & (self.first / 281474976710656 % 256 < 128)
-            & (self.first / 72057594037927936 % 256 < 2)
+        let controls = levels & ((self.first & 255) < 16) & (((self.first >> 8) & 255) < 2);
+        let config = (((self.first >> 16) & 255) < 2)
+            & (((self.first >> 24) & 255) < 2)
+            & (((self.first >> 32) & 255) < 2);
+        let transition = (((self.first >> 40) & 255) < 128)
+            & (((self.first >> 48) & 255) < 128)
+            & (((self.first >> 56) & 255) < 2)
             & (self.interrupt < 2);
         let ports = controls & config & transition & (self.mark < 2);
         self.sound & ports
@@ -228,12 +228,12 @@ fn argument(own: u32, family: u8) -> u8
     ensures { λ r. ⌜ r ≡ argumentAt own family ⌝ }
 {
     if family == 0 {
-        return (own % 16) as u8;
+        return (own & 15) as u8;
     }
     if family == 1 {
-        return (own / 16 % 16) as u8;
+        return ((own >> 4) & 15) as u8;
     }
-    (own / 256 % 16) as u8
+    ((own >> 8) & 15) as u8
 }
 
 // 14, by the same.
@@ -241,10 +241,10 @@ fn lack(own: u32, family: u8) -> u8
     ensures { λ r. ⌜ r ≡ lackAt own family ⌝ }
 {
     if family == 0 {
-        return (own / 4096 % 16) as u8;
+        return ((own >> 12) & 15) as u8;
     }
     if family == 1 {
-        return (own / 65536 % 16) as u8;
+        return ((own >> 16) & 15) as u8;
     }
     0
 }
@@ -256,7 +256,7 @@ fn row_lack(own: u32, old: bool) -> u8
     if old {
         return 0;
     }
-    (own / 1048576 % 16) as u8
+    ((own >> 20) & 15) as u8
 }
 
 // Of a call that a MAX6957 lacks, whose arguments give k.
@@ -353,8 +353,8 @@ pub fn found_old(first: u8, widths: Widths, own: u32) -> u8
     if first != 0 {
         return first;
     }
-    let later = first_of(sound_refusal(widths.fit()), (own / 4096 % 16) as u8);
-    first_of((own % 16) as u8, later)
+    let later = first_of(sound_refusal(widths.fit()), ((own >> 12) & 15) as u8);
+    first_of((own & 15) as u8, later)
 }
 
 // The number of a call to a driver of a family, by the records alone.

@@ -40,9 +40,12 @@ A chain may have MAX6957 too, whose ports drive LED currents and logic levels. I
 The library is target/lib/libratchetelm.so, which `make lib` makes, or the one in the folder that RATCHETELM_LIB names.
 """
 
-from .chain import Brightness, Chain, Drive, Pin, Port, Ruler
+from .answers import Brightness, Byte, Drive, Pin, Port, Ruler
+from .chain import Chain
 from .records import Device
 from .refused import Refused
-from .two_wire import Bus, Byte
+from .two_wire import Bus
+
+__version__ = "0.7.0"
 
 __all__ = ["Brightness", "Bus", "Byte", "Chain", "Device", "Drive", "Pin", "Port", "Refused", "Ruler"]

@@ -1,46 +1,148 @@
-"""The records as C has them; include/ratchetelm.h says what each field is."""
+"""The records as C has them; include/ratchetelm.h says what each field is.
+
+A field takes only a number that it has room for, and a name that isn't a field's is AttributeError. Whether a record is sound is for the calls to
+say, which refuse one that isn't with 7.
+"""
+
+from __future__ import annotations
 
 import ctypes
 from ctypes import c_size_t, c_uint8, c_uint16, c_uint32
+from typing import Any, Dict
+
+from . import names
+from .arguments import byte_string, number
 
 
-class Controls(ctypes.Structure):
+class ByteArray(ctypes.Array[c_uint8]):
+    """Bytes of a record: `p0[3] = 0x7F`, `p0[:] = bytes(16)`."""
+
+    _type_ = c_uint8
+    _length_ = 0
+
+    def __setitem__(self, at: Any, value: Any) -> None:
+        super().__setitem__(at, byte_string(value, "the bytes") if isinstance(at, slice) else number(value, 8, "a byte"))
+
+    def __eq__(self, other: object) -> bool:
+        if not isinstance(other, ByteArray):
+            return NotImplemented
+        return bytes(self) == bytes(other)
+
+    def __repr__(self) -> str:
+        return repr(list(self))
+
+
+class Bytes7(ByteArray):
+    """Seven bytes."""
+
+    _length_ = 7
+
+
+class Bytes8(ByteArray):
+    """Eight bytes."""
+
+    _length_ = 8
+
+
+class Bytes14(ByteArray):
+    """Fourteen bytes."""
+
+    _length_ = 14
+
+
+class Bytes16(ByteArray):
+    """Sixteen bytes."""
+
+    _length_ = 16
+
+
+class Record(ctypes.Structure):
+    """A structure whose fields take only what they can hold; two are equal where all their fields are."""
+
+    def __setattr__(self, name: str, value: Any) -> None:
+        kind: Any = dict((field[0], field[1]) for field in self._fields_).get(name)
+        if kind is None:
+            raise AttributeError(f"{type(self).__name__} has no field {name!r}")
+        if issubclass(kind, ByteArray):
+            getattr(self, name)[:] = value
+        else:
+            super().__setattr__(name, value if issubclass(kind, Record) else number(value, 8 * ctypes.sizeof(kind), name))
+
+    def __eq__(self, other: object) -> bool:
+        if not isinstance(other, type(self)):
+            return NotImplemented
+        return all(getattr(self, field[0]) == getattr(other, field[0]) for field in self._fields_)
+
+    def __repr__(self) -> str:
+        return f"{type(self).__name__}({', '.join(f'{field[0]}={getattr(self, field[0])!r}' for field in self._fields_)})"
+
+
+class Controls(Record):
     """The control registers; `global_` is the global intensity, since `global` is a word of Python."""
 
+    decode: int
+    global_: int
+    limit: int
+    gpio: int
+    ports: int
+    test: int
+    types: int
     _fields_ = [(name, c_uint8) for name in ("decode", "global_", "limit", "gpio", "ports", "test", "types")]
 
 
-class Config(ctypes.Structure):
+class Config(Record):
     """The stored bits of the configuration register, each 0 or 1."""
 
+    i: int
+    e: int
+    b: int
+    s: int
     _fields_ = [(name, c_uint8) for name in ("i", "e", "b", "s")]
 
 
-class Group(ctypes.Structure):
+class Group(Record):
     """Eight keys of a group, bit k for key k."""
 
+    mask: int
+    debounced: int
+    pressed: int
+    held: int
     _fields_ = [(name, c_uint8) for name in ("mask", "debounced", "pressed", "held")]
 
 
-class Keys(ctypes.Structure):
+class Keys(Record):
     """Key groups A to D, and the interrupt that they share."""
 
-    _fields_ = [(name, Group) for name in "abcd"] + [("interrupt", c_uint8)]
+    a: Group
+    b: Group
+    c: Group
+    d: Group
+    interrupt: int
+    _fields_ = [("a", Group), ("b", Group), ("c", Group), ("d", Group), ("interrupt", c_uint8)]
 
 
-class Planes(ctypes.Structure):
+class Planes(Record):
     """The digit bytes: digits 0 to 7, then 0a to 7a."""
 
-    _fields_ = [("p0", c_uint8 * 16), ("p1", c_uint8 * 16)]
+    p0: Bytes16
+    p1: Bytes16
+    _fields_ = [("p0", Bytes16), ("p1", Bytes16)]
 
 
-class Registers(ctypes.Structure):
+class Registers(Record):
     """All that the registers hold or show."""
 
+    controls: Controls
+    config: Config
+    intensities: Bytes8
+    keys: Keys
+    planes: Planes
+    pins: int
+    blink: int
     _fields_ = [
         ("controls", Controls),
         ("config", Config),
-        ("intensities", c_uint8 * 8),
+        ("intensities", Bytes8),
         ("keys", Keys),
         ("planes", Planes),
         ("pins", c_uint32),
@@ -48,26 +150,41 @@ class Registers(ctypes.Structure):
     ]
 
 
-class PortConfig(ctypes.Structure):
+class PortConfig(Record):
     """The stored bits of a MAX6957's configuration register, each 0 or 1."""
 
+    m: int
+    i: int
+    s: int
     _fields_ = [(name, c_uint8) for name in ("m", "i", "s")]
 
 
-class Transition(ctypes.Structure):
+class Transition(Record):
     """Transition detection, bit k for port k+24."""
 
+    mask: int
+    snapshot: int
+    detecting: int
+    interrupt: int
     _fields_ = [(name, c_uint8) for name in ("mask", "snapshot", "detecting", "interrupt")]
 
 
-class PortRegisters(ctypes.Structure):
+class PortRegisters(Record):
     """All that the registers of a MAX6957 hold or show, bit k for port k+4; `global_` is the global current."""
 
+    stored: int
+    pins: int
+    pairs: Bytes7
+    currents: Bytes14
+    global_: int
+    test: int
+    config: PortConfig
+    transition: Transition
     _fields_ = [
         ("stored", c_uint32),
         ("pins", c_uint32),
-        ("pairs", c_uint8 * 7),
-        ("currents", c_uint8 * 14),
+        ("pairs", Bytes7),
+        ("currents", Bytes14),
         ("global_", c_uint8),
         ("test", c_uint8),
         ("config", PortConfig),
@@ -75,9 +192,16 @@ class PortRegisters(ctypes.Structure):
     ]
 
 
-class Device(ctypes.Structure):
+class Device(Record):
     """A driver's record: `registers` are those of a MAX6954 or MAX6955, `ports` those of a MAX6957, as `family` says."""
 
+    registers: Registers
+    shift: int
+    fitted: int
+    answer_mark: int
+    command: int
+    family: int
+    ports: PortRegisters
     _fields_ = [
         ("registers", Registers),
         ("shift", c_uint16),
@@ -88,14 +212,24 @@ class Device(ctypes.Structure):
         ("ports", PortRegisters),
     ]
 
+    def by_name(self) -> Dict[str, int]:
+        """What is stored in each register of the driver's family, by its name."""
+        return names.registers(self)
 
-class BusState(ctypes.Structure):
+    def __repr__(self) -> str:
+        return names.text(self)
+
+
+class BusState(Record):
     """What goes on on a two-wire bus."""
 
+    part: int
+    phase: int
     _fields_ = [("part", c_size_t), ("phase", c_uint8)]
 
 
-class Straps(ctypes.Structure):
+class Straps(Record):
     """The addresses of sixteen parts."""
 
-    _fields_ = [("addresses", c_uint8 * 16)]
+    addresses: Bytes16
+    _fields_ = [("addresses", Bytes16)]

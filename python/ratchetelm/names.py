@@ -69,8 +69,8 @@ def max6957(held: PortRegisters) -> Dict[str, int]:
 
 
 def others(device: Device) -> Dict[str, int]:
-    """What a record has beside the registers of its family, by the name of its field."""
-    found = {"shift": device.shift, "answer_mark": device.answer_mark, "fitted": device.fitted, "command": device.command}
+    """What a record has beside its shift word and the registers of its family, by the name of its field."""
+    found = {"answer_mark": device.answer_mark, "fitted": device.fitted, "command": device.command}
     if part(device) == "MAX6954":
         keys = device.registers.keys
         found.update({"pins": device.registers.pins, "blink": device.registers.blink, "interrupt": keys.interrupt})
@@ -83,7 +83,7 @@ def others(device: Device) -> Dict[str, int]:
 
 
 def text(device: Device) -> str:
-    """A record in words: its part, what it has beside registers, then every register by its name, all in hex."""
+    """A record in words: its part and its shift word, then all that isn't 0, registers by their names. Only the blink count is decimal."""
     named = {**others(device), **registers(device)}
-    told = f"<{part(device)} " + ", ".join(f"{name} {value:02X}" for name, value in named.items()) + ">"
-    return textwrap.fill(told, 120, subsequent_indent="  ", break_on_hyphens=False)
+    told = [f"{name}={value if name == 'blink' else format(value, '02X')}" for name, value in named.items() if value]
+    return textwrap.fill(f"<{' '.join([part(device), f'shift={device.shift:04X}', *told])}>", 120, subsequent_indent="  ", break_on_hyphens=False)

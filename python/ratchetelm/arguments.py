@@ -39,15 +39,21 @@ def view(values: Any) -> Optional[memoryview]:
         return None
 
 
+def wrong(values: Any, name: str, kind: str) -> TypeError:
+    """The error for values that aren't of their kind."""
+    seen = view(values)
+    return TypeError(f"{name} must be {kind}, not {type(values).__name__}" + (f" of {seen.itemsize}-byte elements" if seen is not None else ""))
+
+
 def elements(values: Any, name: str, kind: str) -> List[Any]:
     """The elements of a sequence or array, whatever they are."""
     seen = view(values)
-    if not isinstance(values, str) and (isinstance(values, Sequence) if seen is None else seen.ndim == 1):
-        try:
-            return list(values)
-        except NotImplementedError:  # a memoryview in the format of ctypes
-            pass
-    raise TypeError(f"{name} must be {kind}, not {type(values).__name__}")
+    if isinstance(values, str) or not (isinstance(values, Sequence) if seen is None else seen.ndim == 1):
+        raise wrong(values, name, kind)
+    try:
+        return list(values)
+    except NotImplementedError:  # a memoryview in a format that Python can't read
+        raise wrong(values, name, kind) from None
 
 
 def byte_string(values: Bytes, name: str) -> bytes:
@@ -57,7 +63,7 @@ def byte_string(values: Bytes, name: str) -> bytes:
     if seen is None:
         return bytes(number(each, 8, f"{name}[{k}]") for k, each in enumerate(elements(values, name, kind)))
     if seen.ndim != 1 or seen.itemsize != 1:
-        raise TypeError(f"{name} must be {kind}, not {type(values).__name__} with elements of {seen.itemsize} bytes")
+        raise wrong(values, name, kind)
     return seen.tobytes()
 
 
@@ -66,7 +72,7 @@ def word_list(values: Words, name: str) -> List[int]:
     kind = "a sequence of words"
     seen = view(values)
     if seen is not None and seen.itemsize == 1:
-        raise TypeError(f"{name} must be {kind}, not {type(values).__name__}, which is bytes")
+        raise wrong(values, name, kind)
     return [number(each, 16, f"{name}[{k}]") for k, each in enumerate(elements(values, name, kind))]
 
 

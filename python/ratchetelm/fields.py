@@ -60,8 +60,12 @@ class Record(ctypes.Structure):
             raise AttributeError(f"{type(self).__name__} has no field {name!r}")
         if issubclass(kind, ByteArray):
             getattr(self, name)[:] = value
+        elif not issubclass(kind, Record):
+            super().__setattr__(name, number(value, 8 * ctypes.sizeof(kind), name))
+        elif isinstance(value, kind):
+            super().__setattr__(name, value)
         else:
-            super().__setattr__(name, value if issubclass(kind, Record) else number(value, 8 * ctypes.sizeof(kind), name))
+            raise TypeError(f"{name} must be {kind.__name__}, not {type(value).__name__}")
 
     def __eq__(self, other: object) -> bool:
         if not isinstance(other, type(self)):

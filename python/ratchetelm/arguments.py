@@ -47,12 +47,11 @@ def wrong(values: Any, name: str, kind: str) -> TypeError:
 
 def elements(values: Any, name: str, kind: str) -> List[Any]:
     """The elements of a sequence or array, whatever they are."""
-    seen = view(values)
-    if isinstance(values, str) or not (isinstance(values, Sequence) if seen is None else seen.ndim == 1):
+    if isinstance(values, str) or (not isinstance(values, Sequence) and view(values) is None):
         raise wrong(values, name, kind)
     try:
         return list(values)
-    except NotImplementedError:  # a memoryview in a format that Python can't read
+    except (NotImplementedError, TypeError):  # a memoryview in a format that Python can't read, a single structure
         raise wrong(values, name, kind) from None
 
 

@@ -4,13 +4,19 @@
 # make test     the gate: everything is proved from nothing, every wrong version is tried, then our own tests run
 # make lib      the library for C, C++, Rust and Python, static and shared, with its header, in target/lib
 # make bench    the speed of the exported calls and of panel, beside plain C, C tuned by hand and the second double
+# make install  the library, its header and pkg-config file, panel, the tools, docs and samples under PREFIX, /usr/local where it isn't given;
+#               DESTDIR goes before every path, LIBDIR is the folder for the libraries in place of PREFIX/lib
+# make uninstall removes exactly what make install put there
+# make dist     a tarball of the same with the Python package and the Rust crate, which needs no Rattle kit, in target/dist
 # make clean    removes target/, which has all that was built and proved
 # make help     says this
-.PHONY: run plan test lib bench clean help
+.PHONY: run plan test lib bench install uninstall dist clean help
 SCRIPT ?= samples/first.hex
 OPTIONS =
 FROM ?= samples/plan-from.txt
 TO ?= samples/plan-to.txt
+PREFIX ?= /usr/local
+export DESTDIR LIBDIR
 
 run:
 	@tools/run $(OPTIONS) -- "$(SCRIPT)"
@@ -26,6 +32,16 @@ lib:
 
 bench:
 	@bench/run
+
+# One step for the lock: what is installed stays as it was proved until it is there.
+install:
+	@tools/alone sh -c 'image=$$(tools/image) && "$$image/install.sh" "$$1"' sh "$(PREFIX)"
+
+uninstall:
+	@tools/install.sh --uninstall "$(PREFIX)"
+
+dist:
+	@tools/alone tools/dist
 
 clean:
 	@tools/alone rm -rf target

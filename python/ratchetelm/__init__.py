@@ -37,8 +37,11 @@ A chain may have MAX6957 too, whose ports drive LED currents and logic levels. I
     >>> ports[4].drive.name, ports[4].sixteenths, ports[5].drive.name, ports[6].drive.name
     ('LED', 10, 'HIGH', 'UNDRIVEN')
 
-The library is target/lib/libratchetelm.so, which `make lib` makes, or the one in the folder that RATCHETELM_LIB names.
+The library is that of the folder in RATCHETELM_LIB, else the one inside the package, the one that `make lib` made in target/lib, or the system's.
 """
+
+# It stands first: the system's library is named by it.
+__version__ = "0.7.0"
 
 from .chain import Brightness, Chain, Drive, Pin, Port, Ruler
 from .records import Device

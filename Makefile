@@ -4,10 +4,10 @@
 # make test     the gate: everything is proved from nothing, every wrong version is tried, then our own tests run
 # make lib      the library for C, C++, Rust and Python, static and shared, with its header, in target/lib
 # make bench    the speed of the exported calls and of panel, beside plain C, C tuned by hand and the second double
-# make install  the library, its header and pkg-config file, panel, the tools, docs and samples under PREFIX, /usr/local where it isn't given;
-#               DESTDIR goes before every path, LIBDIR is the folder for the libraries in place of PREFIX/lib
-# make uninstall removes exactly what make install put there
-# make dist     a tarball of the same with the Python package and the Rust crate, which needs no Rattle kit, in target/dist
+# make install  puts the library, its header and pkg-config file, panel, the tools, docs and samples under PREFIX, which is /usr/local where it
+#               isn't given; DESTDIR goes before every path, and LIBDIR is the folder for the libraries in place of PREFIX/lib
+# make uninstall removes exactly what make install put under PREFIX, in DESTDIR where it was given
+# make dist     a tarball in target/dist of what is installed, the Python package and the Rust crate, for machines without the Rattle kit
 # make clean    removes target/, which has all that was built and proved
 # make help     says this
 .PHONY: run plan test lib bench install uninstall dist clean help
@@ -33,7 +33,6 @@ lib:
 bench:
 	@bench/run
 
-# One step for the lock: what is installed stays as it was proved until it is there.
 install:
 	@tools/alone sh -c 'image=$$(tools/image) && "$$image/install.sh" "$$1"' sh "$(PREFIX)"
 

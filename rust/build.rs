@@ -1,13 +1,17 @@
-//! Links libratchetelm.a from the folder in RATCHETELM_LIB, else from the repository's target/lib.
+//! Links libratchetelm.a from the folder in RATCHETELM_LIB, else from the repository's target/lib or, in the tarball, from its lib.
 //!
 //! Where it isn't there a warning says so and the build goes on: the documentation needs no library, and the linker names it.
 use std::path::{Path, PathBuf};
 use std::{env, process};
 
+const FILE: &str = "libratchetelm.a";
+
 fn folder() -> PathBuf {
     let Some(named) = env::var_os("RATCHETELM_LIB").filter(|name| !name.is_empty()) else {
         let manifest = env::var_os("CARGO_MANIFEST_DIR").expect("cargo sets CARGO_MANIFEST_DIR");
-        return Path::new(&manifest).join("../target/lib");
+        let [made, unpacked] = ["../target/lib", "../lib"].map(|at| Path::new(&manifest).join(at));
+        let there = unpacked.join(FILE).is_file() && !made.join(FILE).is_file();
+        return if there { unpacked } else { made };
     };
     // cargo runs this in the crate's folder, and doesn't tell in which one RATCHETELM_LIB was set.
     let named = PathBuf::from(named);
@@ -24,7 +28,7 @@ fn folder() -> PathBuf {
 fn main() {
     println!("cargo:rerun-if-env-changed=RATCHETELM_LIB");
     let folder = folder();
-    let library = folder.join("libratchetelm.a");
+    let library = folder.join(FILE);
     println!("cargo:rerun-if-changed={}", library.display());
     if !library.is_file() {
         println!(

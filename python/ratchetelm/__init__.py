@@ -37,15 +37,26 @@ A chain may have MAX6957 too, whose ports drive LED currents and logic levels. I
     >>> ports[4].drive.name, ports[4].sixteenths, ports[5].drive.name, ports[6].drive.name
     ('LED', 10, 'HIGH', 'UNDRIVEN')
 
+A record says what it holds that isn't 0; `by_name` gives all registers of its family, MAX6954's by the names that scripts have.
+
+    >>> gripper.records[1]
+    <MAX6957 shift=0401 fitted=FF global-current=09 configuration=01 port-configuration-p7-p4=A4 ...
+    >>> gripper.records[0].by_name()["scan-limit"]
+    7
+
+Bytes are bytes-like or a sequence of numbers, words a sequence of numbers. A wrong type is TypeError, a number that C has no room for ValueError, and
+nothing has begun then. Chains and buses are compared by their records, and copied and pickled with them.
+
 The library is that of the folder in RATCHETELM_LIB, else the one inside the package, the one that `make lib` made in target/lib, or the system's.
 """
 
 # It stands first: the system's library is named by it.
 __version__ = "0.7.0"
 
-from .chain import Brightness, Chain, Drive, Pin, Port, Ruler
+from .answers import Brightness, Byte, Drive, Pin, Port, Ruler
+from .chain import Chain
 from .records import Device
 from .refused import Refused
-from .two_wire import Bus, Byte
+from .two_wire import Bus
 
 __all__ = ["Brightness", "Bus", "Byte", "Chain", "Device", "Drive", "Pin", "Port", "Refused", "Ruler"]

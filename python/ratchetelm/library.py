@@ -1,9 +1,12 @@
-"""The shared library with its calls, typed as include/ratchetelm.h has them, and the numbers that they take."""
+"""The shared library with its calls, typed as include/ratchetelm.h has them."""
+
+from __future__ import annotations
 
 import ctypes
 import os
 import pathlib
 from ctypes import POINTER, c_size_t, c_uint8, c_uint16, c_uint32
+from typing import Any, Dict, Tuple
 
 from . import __version__
 from .records import BusState, Device, Straps
@@ -16,7 +19,7 @@ FOLDERS = HERE, HERE.parents[1] / "target" / "lib"
 SONAME = f"{FILE}.{__version__.rpartition('.')[0]}"
 
 
-def answer(*names, number=c_uint8):
+def answer(*names: Any, number: Any = c_uint8) -> Any:
     """An answer of a call: its number, then these fields."""
     fields = [("number", c_uint8)] + [name if isinstance(name, tuple) else (name, number) for name in names]
     return type("Answer", (ctypes.Structure,), {"_fields_": fields})
@@ -29,7 +32,7 @@ BUS = (BusState, Straps)
 STATE = ("bus", BusState)
 
 # Each call: what it gives back, then what it takes.
-CALLS = {
+CALLS: Dict[str, Tuple[Any, ...]] = {
     "max6954_power_up": (Device,),
     "max6957_power_up": (Device,),
     "max6954_access": (c_uint8, *CHAIN, c_size_t, *LENT_BYTES, *LENT_BYTES),
@@ -53,7 +56,7 @@ CALLS = {
 }
 
 
-def path():
+def path() -> str:
     """The library that is loaded: that of the folder in RATCHETELM_LIB, else the first that is there. A relative folder is one of the current folder."""
     named = os.environ.get(NAME)
     if named:
@@ -61,7 +64,7 @@ def path():
     return next((str(folder / FILE) for folder in FOLDERS if (folder / FILE).is_file()), SONAME)
 
 
-def load():
+def load() -> ctypes.CDLL:
     """The library, each call with its types."""
     try:
         library = ctypes.CDLL(path())
@@ -71,27 +74,3 @@ def load():
         call = getattr(library, name)
         call.restype, call.argtypes = gives, takes
     return library
-
-
-def number(value, bits, name):
-    """A number that fits so many bits: ctypes would cut a larger one down, and the call would serve another number."""
-    if not 0 <= value < 1 << bits:
-        raise OverflowError(f"{name} is {value}, which isn't a number of {bits} bits")
-    return value
-
-
-def place(value, name):
-    """A driver, digit, cathode, plane or number of clocks, as large as C has them."""
-    return number(value, 8 * ctypes.sizeof(c_size_t), name)
-
-
-def lent_bytes(values):
-    """Bytes to lend, and how many."""
-    values = bytes(values)
-    return (c_uint8 * len(values)).from_buffer_copy(values), len(values)
-
-
-def lent_words(values):
-    """Words of 16 bits to lend, and how many."""
-    values = [number(value, 16, "a word") for value in values]
-    return (c_uint16 * len(values))(*values), len(values)

@@ -1,6 +1,10 @@
 """The numbers that a call may give, and their words, in the order in which they are tested."""
 
-TEXTS = {
+from __future__ import annotations
+
+from typing import Dict
+
+TEXTS: Dict[int, str] = {
     1: "the chain has 0 or more than 16 records",
     2: "driver number not in 1..n",
     3: "more than 4,096 clocks in one access",
@@ -19,14 +23,22 @@ TEXTS = {
 
 
 class Refused(Exception):
-    """A call that was refused: no record and no lent byte has changed."""
+    """A call that was refused: no record and no lent byte has changed. `words` says what its `number` means."""
 
-    def __init__(self, number):
-        super().__init__(f"{number}: {TEXTS[number]}")
+    number: int
+    words: str
+
+    def __init__(self, number: int) -> None:
+        # The number alone is the argument, from which pickle and copy make it again.
+        super().__init__(number)
         self.number = number
+        self.words = TEXTS[number]
+
+    def __str__(self) -> str:
+        return f"{self.number}: {self.words}"
 
 
-def served(number):
+def served(number: int) -> None:
     """Raises Refused for any number but 0."""
     if number:
         raise Refused(number)

@@ -1,18 +1,18 @@
 """A two-wire bus of MAX6955: the records of a chain, their addresses, and the state of the bus."""
 
-import typing
+from __future__ import annotations
 
+import contextlib
+import copy
+from typing import Any, Iterator, TypeVar
+
+from .answers import Byte
+from .arguments import Bytes, byte_string, number, place
 from .chain import C, Chain
-from .library import number
 from .records import BusState, Straps
 from .refused import served
 
-
-class Byte(typing.NamedTuple):
-    """What became of a byte: whether a part took or drove it, and the data, 255 where none did."""
-
-    acknowledged: bool
-    data: int
+SomeBus = TypeVar("SomeBus", bound="Bus")
 
 
 class Bus:
@@ -24,60 +24,90 @@ class Bus:
         >>> bus.write_registers(0x60, 0x04, [0x01])
         >>> bus.read_registers(0x60, 0x04, 1).hex()
         '81'
+
+    Buses are equal where their parts, addresses and states are, and a copy, deep or not, has parts of its own.
     """
 
-    def __init__(self, addresses):
-        self.parts = Chain(len(addresses))
-        addresses = [number(address, 8, "an address") for address in addresses]
-        if len(addresses) > 16:
-            served(1)
-        self.straps = Straps((type(Straps().addresses))(*addresses))
-        self.state = BusState()
+    parts: Chain
+    straps: Straps
+    state: BusState
 
-    def _call(self, name, *arguments):
+    def __init__(self, addresses: Bytes) -> None:
+        given = byte_string(addresses, "addresses")
+        self.parts = Chain(len(given))
+        self.straps = Straps(given.ljust(16, b"\0"))
+        self.state = BusState()
+        # Any call is refused where two parts have one address or an address is above 127: so such a bus isn't made.
+        self._call("max6955_stop")
+
+    def __eq__(self, other: object) -> bool:
+        if not isinstance(other, Bus):
+            return NotImplemented
+        return self.parts == other.parts and self.straps == other.straps and self.state == other.state
+
+    def __repr__(self) -> str:
+        addresses = self.straps.addresses[: len(self.parts)]
+        return f"<Bus of parts at {', '.join(f'0x{address:02X}' for address in addresses)}, {self.state!r}>"
+
+    def __copy__(self: SomeBus) -> SomeBus:
+        return copy.deepcopy(self)
+
+    def _call(self, name: str, *arguments: Any) -> Any:
         answer = getattr(C, name)(self.parts.records, len(self.parts), self.state, self.straps, *arguments)
         served(answer.number)
         self.state = answer.bus
         return answer
 
-    def start(self):
+    def start(self) -> None:
         """A start: the bus awaits a slave byte."""
         self._call("max6955_start")
 
-    def stop(self):
+    def stop(self) -> None:
         """A stop: the bus is idle."""
         self._call("max6955_stop")
 
-    def write(self, byte):
+    def write(self, byte: int) -> Byte:
         """A byte that the controller gives."""
         answer = self._call("max6955_write", number(byte, 8, "a byte"))
         return Byte(answer.acknowledged == 1, answer.data)
 
-    def read(self):
+    def read(self) -> Byte:
         """A byte that the controller asks for."""
         answer = self._call("max6955_read")
         return Byte(answer.acknowledged == 1, answer.data)
 
-    def write_registers(self, address, register, data):
+    def write_registers(self, address: int, register: int, data: Bytes) -> None:
         """A whole write: the slave byte, the command address, the data and a stop. OSError where a byte isn't acknowledged."""
+        slave, command, given = 2 * number(address, 7, "address"), number(register, 8, "register"), byte_string(data, "data")
+        with self._transaction():
+            for byte in (slave, command, *given):
+                acknowledged(self.write(byte), address)
+
+    def read_registers(self, address: int, register: int, count: int) -> bytes:
+        """A whole read: the command address is written, then so many bytes are read after a repeated start, and a stop. OSError likewise."""
+        slave, command, count = 2 * number(address, 7, "address"), number(register, 8, "register"), place(count, "count")
+        with self._transaction():
+            for byte in slave, command:
+                acknowledged(self.write(byte), address)
+            self.start()
+            acknowledged(self.write(slave + 1), address)
+            return bytes(acknowledged(self.read(), address) for _ in range(count))
+
+    @contextlib.contextmanager
+    def _transaction(self) -> Iterator[None]:
+        """A start, and a stop whatever comes in between."""
         self.start()
-        for byte in [2 * address, register, *data]:
-            self._acknowledged(self.write(byte), address)
+        try:
+            yield
+        except BaseException:
+            # As a stop leaves it; one that is refused, like the byte before it, would leave the bus open.
+            self.state = BusState()
+            raise
         self.stop()
 
-    def read_registers(self, address, register, count):
-        """A whole read: the command address is written, then so many bytes are read after a repeated start."""
-        self.start()
-        for byte in [2 * address, register]:
-            self._acknowledged(self.write(byte), address)
-        self.start()
-        self._acknowledged(self.write(2 * address + 1), address)
-        data = bytes(self._acknowledged(self.read(), address) for _ in range(count))
-        self.stop()
-        return data
 
-    def _acknowledged(self, byte, address):
-        if not byte.acknowledged:
-            self.stop()
-            raise OSError(f"no part acknowledges at address {address:02X}")
-        return byte.data
+def acknowledged(byte: Byte, address: int) -> int:
+    """The data of an acknowledged byte."""
+    if not byte.acknowledged:
+        raise OSError(f"no part acknowledges at address 0x{address:02X}")
+    return byte.data

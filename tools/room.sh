@@ -19,7 +19,7 @@ done
 
 # alone COMMAND..: runs it by tools/alone. It is waited for in the background: a shell takes no signal before a command in the foreground has ended.
 alone() {
-    "$root/tools/alone" "$@" &
+    "$root/tools/alone" --for "$0" "$@" &
     started=$!
     wait "$started"
     set -- $?

@@ -11,6 +11,8 @@
 # make clean    removes target/, which has all that was built and proved
 # make help     says this
 .PHONY: run plan test lib bench install uninstall dist clean help
+# With it a script's cd prints where it went.
+unexport CDPATH
 SCRIPT ?= samples/first.hex
 OPTIONS =
 FROM ?= samples/plan-from.txt

@@ -28,9 +28,10 @@ stage=${DESTDIR-} prefix=${1:-/usr/local}
 stage=${stage%/} prefix=${prefix%/}
 libdir=${LIBDIR:-$prefix/lib}
 list=$prefix/libexec/ratchetelm/installed.txt
-for path in "$stage/" "$prefix/" "$libdir"; do
+for path in "$prefix/" "$libdir"; do
     case $path in /*) ;; *) fail 2 "$path is a relative path: give an absolute one" ;; esac
 done
+case $stage in '' | /*) ;; *) stage=$PWD/$stage ;; esac
 CDPATH='' cd "$(dirname "$0")" || exit 1
 
 # removed PATHS: the files, then the folders, which end with /, where nothing else is in them: the innermost first.

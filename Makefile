@@ -4,13 +4,21 @@
 # make test     the gate: everything is proved from nothing, every wrong version is tried, then our own tests run
 # make lib      the library for C, C++, Rust and Python, static and shared, with its header, in target/lib
 # make bench    the speed of the exported calls and of panel, beside plain C, C tuned by hand and the second double
+# make install  puts the library, its header and pkg-config file, panel, the tools, docs and samples under PREFIX, which is /usr/local where it
+#               isn't given; DESTDIR goes before every path, and LIBDIR is the folder for the libraries in place of PREFIX/lib
+# make uninstall removes exactly what make install put under PREFIX, in DESTDIR where it was given
+# make dist     a tarball in target/dist of what is installed, the Python package and the Rust crate, for machines without the Rattle kit
 # make clean    removes target/, which has all that was built and proved
 # make help     says this
-.PHONY: run plan test lib bench clean help
+.PHONY: run plan test lib bench install uninstall dist clean help
+# With it a script's cd prints where it went.
+unexport CDPATH
 SCRIPT ?= samples/first.hex
 OPTIONS =
 FROM ?= samples/plan-from.txt
 TO ?= samples/plan-to.txt
+PREFIX ?= /usr/local
+export DESTDIR LIBDIR
 
 run:
 	@tools/run $(OPTIONS) -- "$(SCRIPT)"
@@ -26,6 +34,15 @@ lib:
 
 bench:
 	@bench/run
+
+install:
+	@tools/alone sh -c 'image=$$(tools/image) && "$$image/install.sh" "$$1"' sh "$(PREFIX)"
+
+uninstall:
+	@tools/install.sh --uninstall "$(PREFIX)"
+
+dist:
+	@tools/alone tools/dist
 
 clean:
 	@tools/alone rm -rf target

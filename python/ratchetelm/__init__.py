@@ -47,15 +47,16 @@ A record says what it holds that isn't 0; `by_name` gives all registers of its f
 Bytes are bytes-like or a sequence of numbers, words a sequence of numbers. A wrong type is TypeError, a number that C has no room for ValueError, and
 nothing has begun then. Chains and buses are compared by their records, and copied and pickled with them.
 
-The library is target/lib/libratchetelm.so, which `make lib` makes, or the one in the folder that RATCHETELM_LIB names.
+The library is that of the folder in RATCHETELM_LIB, else the one inside the package, the one that `make lib` made in target/lib, or the system's.
 """
+
+# It stands first: the system's library is named by it.
+__version__ = "0.7.0"
 
 from .answers import Brightness, Byte, Drive, Pin, Port, Ruler
 from .chain import Chain
 from .records import Device
 from .refused import Refused
 from .two_wire import Bus
-
-__version__ = "0.7.0"
 
 __all__ = ["Brightness", "Bus", "Byte", "Chain", "Device", "Drive", "Pin", "Port", "Refused", "Ruler"]

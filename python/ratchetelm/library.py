@@ -8,10 +8,15 @@ import pathlib
 from ctypes import POINTER, c_size_t, c_uint8, c_uint16, c_uint32
 from typing import Any, Dict, Tuple
 
+from . import __version__
 from .records import BusState, Device, Straps
 
-NAME = "RATCHETELM_LIB"
-MADE = pathlib.Path(__file__).resolve().parents[2] / "target" / "lib"
+NAME, FILE = "RATCHETELM_LIB", "libratchetelm.so"
+HERE = pathlib.Path(__file__).resolve().parent
+# Where it is looked for: an installed package has it inside, a checkout where make lib puts it.
+FOLDERS = HERE, HERE.parents[1] / "target" / "lib"
+# The system's, by the name that make install gives it: another record layout has another name.
+SONAME = f"{FILE}.{__version__.rpartition('.')[0]}"
 
 
 def answer(*names: Any, number: Any = c_uint8) -> Any:
@@ -51,11 +56,18 @@ CALLS: Dict[str, Tuple[Any, ...]] = {
 }
 
 
+def path() -> str:
+    """The library that is loaded: that of the folder in RATCHETELM_LIB, else the first that is there. A relative folder is one of the current folder."""
+    named = os.environ.get(NAME)
+    if named:
+        return os.path.join(os.path.abspath(named), FILE)
+    return next((str(folder / FILE) for folder in FOLDERS if (folder / FILE).is_file()), SONAME)
+
+
 def load() -> ctypes.CDLL:
     """The library, each call with its types."""
-    path = pathlib.Path(os.environ.get(NAME, MADE)) / "libratchetelm.so"
     try:
-        library = ctypes.CDLL(str(path))
+        library = ctypes.CDLL(path())
     except OSError as error:
         raise ImportError(f"{error}; make lib makes it, and {NAME} may name another folder") from None
     for name, (gives, *takes) in CALLS.items():

@@ -54,6 +54,10 @@
 //!
 //! A MAX6957 has no digits: [`ports`] says what its ports drive. It lacks [`scan`], [`add_clocks`], [`plane`], [`segments`],
 //! [`brightness`], [`shown`] and [`look_back`], and a chain with one anywhere lacks [`plan`], [`plan_check`] and the bus.
+//!
+//! The crate needs no standard library: no call allocates, and the records are the caller's.
+#![no_std]
+#![deny(missing_docs)]
 
 mod records;
 mod refusal;
@@ -124,7 +128,9 @@ pub struct Brightness {
 /// A digit plane; as a number it is the one that C has.
 #[derive(Clone, Copy, Debug, PartialEq, Eq)]
 pub enum Plane {
+    /// Shown where blinking is off, and in the first half of a blink period.
     P0 = 0,
+    /// Shown in the second half of a blink period.
     P1 = 1,
 }
 

@@ -53,9 +53,13 @@ pub struct Group {
 #[repr(C)]
 #[derive(Clone, Copy, Debug, PartialEq, Eq)]
 pub struct Keys {
+    /// Group A: 0x08, and 0x0C as read.
     pub a: Group,
+    /// Group B: 0x09, and 0x0D as read.
     pub b: Group,
+    /// Group C: 0x0A, and 0x0E as read.
     pub c: Group,
+    /// Group D: 0x0B, and 0x0F as read.
     pub d: Group,
     /// 1 when raised, else 0.
     pub interrupt: u8,
@@ -75,11 +79,15 @@ pub struct Planes {
 #[repr(C)]
 #[derive(Clone, Copy, Debug, PartialEq, Eq)]
 pub struct Registers {
+    /// 0x01 to 0x03, 0x05 to 0x07 and 0x0C.
     pub controls: Controls,
+    /// 0x04.
     pub config: Config,
     /// 0x10 to 0x17: digits 0 and 1, 2 and 3, .. 7, 0a and 1a, .. 7a; the odd one in the high nibble.
     pub intensities: [u8; 8],
+    /// 0x08 to 0x0F, as written and as read.
     pub keys: Keys,
+    /// 0x20 to 0x2F and 0x40 to 0x4F; 0x60 to 0x6F write both.
     pub planes: Planes,
     /// Levels of the pins P0 to P4, 5 bits, bit k is Pk: what an input reads.
     pub pins: u32,
@@ -130,7 +138,9 @@ pub struct PortRegisters {
     pub global: u8,
     /// 0x07 display test, 1 bit.
     pub test: u8,
+    /// 0x04.
     pub config: PortConfig,
+    /// 0x06, and what it detects by.
     pub transition: Transition,
 }
 
@@ -139,6 +149,7 @@ pub struct PortRegisters {
 #[repr(C)]
 #[derive(Clone, Copy, Debug, PartialEq, Eq)]
 pub struct Device {
+    /// The registers of a MAX6954 or MAX6955.
     pub registers: Registers,
     /// The shift word, D15 to D0: the next access clocks it out.
     pub shift: u16,
@@ -150,6 +161,7 @@ pub struct Device {
     pub command: u8,
     /// 0: MAX6954 or MAX6955, 1: MAX6957; no call changes it, and any other is refused.
     pub family: u8,
+    /// The registers of a MAX6957.
     pub ports: PortRegisters,
 }
 

@@ -1,21 +1,32 @@
-use std::error::Error;
-use std::fmt;
+use core::error::Error;
+use core::fmt;
 
 /// Why a call was refused, in words by `Display`. Where several apply, it is the first of them in this order.
 #[derive(Clone, Copy, Debug, PartialEq, Eq)]
 pub enum Refusal {
+    /// The chain has 0 or more than 16 records.
     ChainLength = 1,
+    /// The driver's number isn't in 1..n.
     DriverNumber = 2,
+    /// More than 4,096 clocks in one access.
     TooManyClocks = 3,
+    /// Fewer bytes are sent than the clocks need.
     SentTooShort = 4,
+    /// The room for the answer is smaller than the clocks need.
     AnswerTooShort = 5,
+    /// A cathode, digit, plane or pin levels out of range, or a lent plane or glyph table of another length.
     OutOfRange = 6,
+    /// Some record, or the bus state, isn't sound.
     Unsound = 7,
+    /// Two parts of a bus are strapped to one address.
     OneAddress = 10,
+    /// A part is strapped to an address above 127.
     AddressTooHigh = 11,
-    /// By a MAX6957 or by the old family; or some record's family is neither.
+    /// The call is lacked by a MAX6957 or by the old family; or some record's family is neither.
     Lacked = 14,
+    /// The wanted planes aren't 32 bytes a driver.
     WantedLength = 12,
+    /// The room for the list is too small for the shortest one.
     ListTooShort = 13,
 }
 

@@ -2,6 +2,7 @@ pub mod Calls
 pub mod CallRefusals
 pub mod Served
 pub mod Outcome
+pub mod Order
 pub mod CallLists
 pub mod Soundness
 pub mod NextAccess

@@ -1,4 +1,4 @@
--- The bench examples, by one computation over the joined table, and those of numbers, answers, answer marks, the planner, the look back and both families.
+-- The bench examples, by one computation over their table, and those of numbers, answers, answer marks, the planner, the look back and both families.
 -- Assumes nothing.
 use Rattle.ground.proofs.Names.{refl, tabulate, Agree}
 use Rattle.wire.specs.Bits.{bits, value, unpack, byteAt, pack, wordAt}
@@ -13,18 +13,15 @@ use Rattle.plans.specs.Words.{every}
 use Rattle.plans.specs.Check.{below, same, acceptedWords, acceptedList}
 use Rattle.plans.specs.Least.{total}
 use Rattle.plans.specs.Plan.{steps, planBy, largest, accesses, planned}
-use Rattle.display.specs.Examples.{WireExamples}
 use Rattle.calls.specs.CallRefusals.{familiesBelow, allSound}
 use Rattle.calls.specs.Outcome.{number, after, reply}
 use Rattle.calls.specs.CallLists.{afterAll, numbers, replies}
-use Rattle.calls.specs.Examples.{rows, numberRows, answerRows, markRows, planRows, lookBackRows, familyRows, Examples}
+use Rattle.calls.specs.BenchTable.{table}
+use Rattle.calls.specs.Examples.{numberRows, answerRows, markRows, planRows, lookBackRows, familyRows, Examples}
 
-bench : Agree rows
+bench : Agree table
 unfolding portTaken portPinned settled levels directions upperBits replaced statesOf tabulate bits value unpack byteAt pack wordAt string words wire answer shifted taken takes familiesBelow soundRecord pinned allSound number after reply afterAll numbers replies
 bench = refl
-
-bench-wires : WireExamples
-bench-wires = refl
 
 bench-numbers : Agree numberRows
 unfolding tabulate familiesBelow soundRecord pinned allSound number
@@ -51,4 +48,4 @@ unfolding portTaken portPinned settled levels directions upperBits replaced stat
 bench-families = refl
 
 pub examples : Examples
-examples = record { bench = bench; wires = bench-wires; numbers = bench-numbers; answers = bench-answers; marked = bench-marks; planned = bench-plans; looked-back = bench-looks; families = bench-families }
+examples = record { bench = bench; numbers = bench-numbers; answers = bench-answers; marked = bench-marks; planned = bench-plans; looked-back = bench-looks; families = bench-families }

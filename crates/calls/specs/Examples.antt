@@ -1,5 +1,5 @@
--- Believed: document 01, "Bench examples", 10 and 11 in the table of the display, the others in one, and "Numbers a call
--- may give", 1 to 7, 3 by example 12; document 02, requests 1, 2, 6, 8 and 9: what the definitions give beside what the documents say.
+-- Believed: document 01, "Bench examples" in their one table, "Numbers a call may give", 1 to 7, and what calls give back; document 02, requests
+-- 1, 2, 6, 8 and 9: what the definitions give beside what the documents say.
 -- Assumes nothing.
 use Prim.Native.Nat.{ℕ, _+_, _*_}
 use mathlib.Core.List.{List, [], _∷_, _++_, map}
@@ -9,75 +9,14 @@ use Rattle.port_registers.specs.PortRecord.{withPins as withLevels}
 use Rattle.device.specs.PowerUp.{powerUp, powerUp6957, freshChain}
 use Rattle.device.specs.Record.{withPins, withBlink, withShift, withMark, withCommand, withPorts, withFamily}
 use Rattle.device.specs.Taken.{taken}
-use Rattle.device.specs.Examples.{rows as driverRows}
+use Rattle.device.specs.Table15.{afterWords}
 use Rattle.device.specs.declared.Device.{Device}
-use Rattle.display.specs.Examples.{WireExamples, rows as displayRows}
 use Rattle.calls.specs.Calls.{scan, levels, clocks, Question, plane, planeShown, segments, brightness, shown, interrupt, answerMark, lookBack, ports, plan, planCheck, Call, access, give, ask, askChain}
 use Rattle.calls.specs.Served.{recordOf}
 use Rattle.calls.specs.Outcome.{number, reply}
-use Rattle.calls.specs.CallLists.{afterAll, numbers, replies}
+use Rattle.calls.specs.CallLists.{afterAll, replies}
 use Rattle.calls.specs.AnswerMark.{marks}
-
--- an access whose answer bytes have just room enough
-abbrev pub accessOf : ℕ → List ℕ → Call
-accessOf c sent = access c sent (map (λ b. 0) sent)
-
--- lists in one
-abbrev pub joined : List (List ℕ) → List ℕ
-joined [] = []
-joined (xs ∷ xss) = xs ++ joined xss
-
--- shift word, global intensity and scan limit of driver j after calls
-abbrev pub stateOf : List Call → List Device → ℕ → List ℕ
-stateOf qs ds j =
-    recordOf (afterAll qs ds) j .shift
-    ∷ recordOf (afterAll qs ds) j .registers .controls .global
-    ∷ recordOf (afterAll qs ds) j .registers .controls .limit
-    ∷ []
-
--- each example as what is evaluated and what the document says
-abbrev pub chainRows : List (List ℕ × List ℕ)
-chainRows =
-    -- 1: n=1, power-up, 0401, 8400, 0000: answers 0000, 0401, 8481
-    (
-      joined (replies (accessOf 16 (0x04 ∷ 0x01 ∷ []) ∷ accessOf 16 (0x84 ∷ 0x00 ∷ []) ∷ accessOf 16 (0x00 ∷ 0x00 ∷ []) ∷ []) (freshChain 1)),
-      0x00 ∷ 0x00 ∷ 0x04 ∷ 0x01 ∷ 0x84 ∷ 0x81 ∷ [],
-    )
-    -- 2: n=1, 17 clocks, a 1 and then 0203: global intensity 3
-    ∷ (stateOf (accessOf 17 (0x81 ∷ 0x01 ∷ 0x80 ∷ []) ∷ []) (freshChain 1) 1, 0x0203 ∷ 3 ∷ 7 ∷ [])
-    -- 3: then 0 clocks: 0203 is taken again; no answer bits
-    ∷ (stateOf (accessOf 17 (0x81 ∷ 0x01 ∷ 0x80 ∷ []) ∷ accessOf 0 [] ∷ []) (freshChain 1) 1, 0x0203 ∷ 3 ∷ 7 ∷ [])
-    ∷ (
-      joined (replies (accessOf 17 (0x81 ∷ 0x01 ∷ 0x80 ∷ []) ∷ access 0 [] (0xEE ∷ []) ∷ []) (freshChain 1)),
-      0x00 ∷ 0x00 ∷ 0x80 ∷ 0xEE ∷ [],
-    )
-    ∷ (numbers (accessOf 17 (0x81 ∷ 0x01 ∷ 0x80 ∷ []) ∷ accessOf 0 [] ∷ []) (freshChain 1), 0 ∷ 0 ∷ [])
-    -- 3, of a read: the debounced key is taken by 8800, and the same word, taken again at 0 clocks, finds none
-    ∷ (
-      map (λ qs. recordOf (afterAll qs (freshChain 1)) 1 .shift)
-          (
-          (accessOf 16 (0x06 ∷ 0x20 ∷ []) ∷ give 1 (scan 1 0 0 0) ∷ give 1 (scan 1 0 0 0) ∷ accessOf 16 (0x88 ∷ 0x00 ∷ []) ∷ [])
-          ∷ (accessOf 16 (0x06 ∷ 0x20 ∷ []) ∷ give 1 (scan 1 0 0 0) ∷ give 1 (scan 1 0 0 0) ∷ accessOf 16 (0x88 ∷ 0x00 ∷ []) ∷ accessOf 0 [] ∷ [])
-          ∷ []
-          ),
-      0x8801 ∷ 0x8800 ∷ [],
-    )
-    -- 4: n=2, 32 clocks, 0000 0303: driver 1 has scan limit 3, driver 2 a no-op
-    ∷ (stateOf (accessOf 32 (0x00 ∷ 0x00 ∷ 0x03 ∷ 0x03 ∷ []) ∷ []) (freshChain 2) 1, 0x0303 ∷ 0 ∷ 3 ∷ [])
-    ∷ (stateOf (accessOf 32 (0x00 ∷ 0x00 ∷ 0x03 ∷ 0x03 ∷ []) ∷ []) (freshChain 2) 2, 0x0000 ∷ 0 ∷ 7 ∷ [])
-    -- 5: n=2, power-up, 16 clocks 0305: driver 1 takes it, driver 2 takes 0000
-    ∷ (stateOf (accessOf 16 (0x03 ∷ 0x05 ∷ []) ∷ []) (freshChain 2) 1, 0x0305 ∷ 0 ∷ 5 ∷ [])
-    ∷ (stateOf (accessOf 16 (0x03 ∷ 0x05 ∷ []) ∷ []) (freshChain 2) 2, 0x0000 ∷ 0 ∷ 7 ∷ [])
-    -- 12: 4,096 clocks served; 4,097 gives 3
-    ∷ (
-      number (accessOf 4096 (replicate 512 0x55)) (freshChain 1) ∷ number (accessOf 4097 (replicate 513 0x55)) (freshChain 1) ∷ [],
-      0 ∷ 3 ∷ [],
-    )
-    ∷ []
-
--- 1 to 5 and 12 on a chain, 1, 8 and 9 on one driver, 6, 7 and request 2's bytes of the display
-abbrev pub rows : List (List ℕ × List ℕ)
-rows = chainRows ++ driverRows ++ displayRows
+use Rattle.calls.specs.BenchTable.{accessOf, joined, stateOf, table}
 
 -- a plane whose digits hold their own places
 abbrev pub lent : List ℕ
@@ -139,13 +78,53 @@ numberRows =
     )
     ∷ []
 
--- what calls give back, served or refused
+-- a driver with E=0 at 2,000,000 clocks; slow at 1,000,000 and 2,000,000; fast at the same
+abbrev pub blinking : List (List Device)
+blinking =
+    (withBlink (taken powerUp 0x0401) 2000000 ∷ [])
+    ∷ (withBlink (taken powerUp 0x0409) 1000000 ∷ [])
+    ∷ (withBlink (taken powerUp 0x0409) 2000000 ∷ [])
+    ∷ (withBlink (taken powerUp 0x040D) 1000000 ∷ [])
+    ∷ (withBlink (taken powerUp 0x040D) 2000000 ∷ [])
+    ∷ []
+
+-- a driver of one key group whose key 0 has its mask bit set
+abbrev pub masked : List Device
+masked = afterWords powerUp (0x0620 ∷ 0x0801 ∷ []) ∷ []
+
+-- a scan of that key
+abbrev pub pressed : List Call
+pressed = give 1 (scan 1 0 0 0) ∷ []
+
+-- a scan, pin levels and clocks for driver 2
+abbrev pub steps : List Call
+steps = give 2 (scan 1 2 4 8) ∷ give 2 (levels 10) ∷ give 2 (clocks 5) ∷ []
+
+-- pressed keys A to D, pin levels and blink count of a record
+abbrev pub stepsOf : Device → List ℕ
+stepsOf d =
+    d .registers .keys .a .pressed
+    ∷ d .registers .keys .b .pressed
+    ∷ d .registers .keys .c .pressed
+    ∷ d .registers .keys .d .pressed
+    ∷ d .registers .pins
+    ∷ d .registers .blink
+    ∷ []
+
+-- what calls give back, served or refused, and what they leave
 abbrev pub answerRows : List (List ℕ × List ℕ)
 answerRows =
     -- "Blink": digits 2 to 4, both included, of the plane now shown, and one digit alone
     (reply (ask 1 (plane lent other 2 4)) (freshChain 1), 2 ∷ 3 ∷ 4 ∷ [])
     ∷ (reply (ask 1 (plane lent other 2 4)) (withBlink (taken powerUp 0x0409) 2000000 ∷ []), 18 ∷ 19 ∷ 20 ∷ [])
     ∷ (reply (ask 1 (plane lent other 15 15)) (freshChain 1), 15 ∷ [])
+    -- the plane shown, 0 for P0 and 1 for P1, of the planes that are lent too: E=0, slow and fast
+    ∷ (joined (map (reply (ask 1 shown)) blinking), 0 ∷ 0 ∷ 1 ∷ 1 ∷ 0 ∷ [])
+    ∷ (joined (map (reply (ask 1 (planeShown lent other 2 4))) blinking), 0 ∷ 0 ∷ 1 ∷ 1 ∷ 0 ∷ [])
+    -- the interrupt, 1 where raised: after one scan of a key whose mask bit is set, and after two
+    ∷ (joined (map (λ qs. reply (ask 1 interrupt) (afterAll qs masked)) (pressed ∷ (pressed ++ pressed) ∷ [])), 0 ∷ 1 ∷ [])
+    -- scans, pin levels and clocks: what driver 2 of two was given, and driver 1 wasn't
+    ∷ (joined (map (λ j. stepsOf (recordOf (afterAll steps (map (λ d. taken d 0x0680) (freshChain 2))) j)) (1 ∷ 2 ∷ [])), 0 ∷ 0 ∷ 0 ∷ 0 ∷ 0 ∷ 0 ∷ 1 ∷ 2 ∷ 4 ∷ 8 ∷ 10 ∷ 5 ∷ [])
     -- refused: an answer that would hold a number holds 0, a segment answer has no pin driven, a returned part is empty
     ∷ (reply (ask 1 (brightness 16)) (freshChain 1) ++ reply (ask 2 shown) (freshChain 1) ++ reply (ask 2 interrupt) (freshChain 1) ++ reply (ask 2 answerMark) (withMark powerUp 1 ∷ []), 0 ∷ 0 ∷ 0 ∷ 0 ∷ 0 ∷ [])
     ∷ (reply (ask 1 (segments 8 font font)) (freshChain 1), replicate 19 0)
@@ -308,8 +287,7 @@ familyRows =
 
 -- what the definitions give is what the documents say
 pub record Examples : Type 0 where
-  pub bench : Agree rows
-  pub wires : WireExamples
+  pub bench : Agree table
   pub numbers : Agree numberRows
   pub answers : Agree answerRows
   pub marked : Agree markRows

@@ -8,4 +8,5 @@ pub mod Soundness
 pub mod NextAccess
 pub mod AnswerMark
 pub mod Isolation
+pub mod BenchTable
 pub mod Examples

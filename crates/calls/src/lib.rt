@@ -1,9 +1,15 @@
 // The calls on a chain of MAX6954, and the theorems over whole lists of them.
+ghost use Rattle.calls.specs.Order.{Order};
 ghost use Rattle.calls.specs.Soundness.{Soundness};
 ghost use Rattle.calls.specs.NextAccess.{NextAccess};
 ghost use Rattle.calls.specs.AnswerMark.{AnswerMark};
 ghost use Rattle.calls.specs.Isolation.{Isolation};
 ghost use Rattle.calls.specs.Examples.{Examples};
+
+// A theorem: the number given is the first in the table's order of those that apply.
+pub fn order()
+    ensures { λ _. ⌜ Order ⌝ }
+{}
 
 // A theorem: calls leave sound records sound.
 pub fn soundness()
@@ -25,7 +31,7 @@ pub fn isolation()
     ensures { λ _. ⌜ Isolation ⌝ }
 {}
 
-// A theorem: the bench examples.
+// A theorem: the bench examples in one table, and examples of numbers, answers and both families.
 pub fn examples()
     ensures { λ _. ⌜ Examples ⌝ }
 {}

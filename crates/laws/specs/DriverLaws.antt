@@ -34,7 +34,9 @@ clearing w = eqb (w / 256) 4 && bit 5 (w % 256)
 
 -- for every record, sound or not
 pub record DriverLaws : Type 0 where
-  -- "digit writes to different digits commute": whatever planes they name. The same digit isn't claimed: see `orders`
+  -- each of the sixteen digits is one by itself, in either plane and in both
+  pub digits-apart : (k v : ℕ) → k < 16 → v < 256 → (digitOf (put0 k v) ≡ k) × (digitOf (put1 k v) ≡ k) × (digitOf (putBoth k v) ≡ k)
+  -- "writes to two different digits give the same in either order": whatever planes they name. The same digit isn't claimed: see `orders`
   pub either-order : (d : Device) (w v : ℕ) → digitWrite w ≡ true → digitWrite v ≡ true → (digitOf w ≡ digitOf v → ⊥)
       → registersAfter d (w ∷ v ∷ []) ≡ registersAfter d (v ∷ w ∷ [])
   -- a write to both planes is a write to P0 and one to P1, in either order

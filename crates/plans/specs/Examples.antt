@@ -32,6 +32,14 @@ sparse =
       p1 = 0 ∷ 0 ∷ 0 ∷ 0 ∷ 0 ∷ 4 ∷ 0 ∷ 0 ∷ 0 ∷ 0 ∷ 0 ∷ 0 ∷ 0 ∷ 0 ∷ 0 ∷ 0xFF ∷ [];
     }
 
+-- digit 0 another, digits 4 to 7 at 0
+abbrev pub tied : Planes
+tied =
+    record {
+      p0 = 0x41 ∷ 0x20 ∷ 0x20 ∷ 0x20 ∷ 0 ∷ 0 ∷ 0 ∷ 0 ∷ eight 0;
+      p1 = 0x41 ∷ 0x20 ∷ 0x20 ∷ 0x20 ∷ 0 ∷ 0 ∷ 0 ∷ 0 ∷ eight 0;
+    }
+
 -- every digit alike in both planes
 abbrev pub alike : Planes
 alike = record { p0 = eight 0x55 ++ eight 0x55; p1 = eight 0x55 ++ eight 0x55 }
@@ -49,6 +57,8 @@ pictures =
       0x6055 ∷ 0x6155 ∷ 0x6255 ∷ 0x6355 ∷ 0x6455 ∷ 0x6555 ∷ 0x6655 ∷ 0x6755
           ∷ 0x6855 ∷ 0x6955 ∷ 0x6A55 ∷ 0x6B55 ∷ 0x6C55 ∷ 0x6D55 ∷ 0x6E55 ∷ 0x6F55 ∷ [],
     )
+    -- five words with a clear or without: no clear on a tie
+    ∷ (planOf before tied, 0x6041 ∷ 0x6400 ∷ 0x6500 ∷ 0x6600 ∷ 0x6700 ∷ [])
     -- nothing to do
     ∷ (planOf before planes, [])
     ∷ []
@@ -107,6 +117,11 @@ checks =
     ∷ (waiting 0x0001, false)
     ∷ (waiting 0x8000, false)
     ∷ (waiting 0x0207, false)
+    -- an intensity, and the unlisted addresses beside the digits
+    ∷ (waiting 0x1000, false)
+    ∷ (waiting 0x3000, false)
+    ∷ (waiting 0x5000, false)
+    ∷ (waiting 0x7000, false)
     -- a longer list
     ∷ (accepts (0x2000 ∷ 0x0000 ∷ 0x2041 ∷ 0x4307 ∷ 0x0000 ∷ 0x2908 ∷ []), true)
     -- other planes than wanted: P0, and P1

@@ -34,6 +34,10 @@ font = replicate 128 0
 abbrev pub asked : Question → ℕ
 asked q = number (ask 1 q) (freshChain 1)
 
+-- the numbers of a part of lent planes, and of which of them it is
+abbrev pub askedPart : List ℕ → List ℕ → ℕ → ℕ → List ℕ
+askedPart p0 p1 first last = asked (plane p0 p1 first last) ∷ asked (planeShown p0 p1 first last) ∷ []
+
 -- the number of pin levels for driver 1 of a chain
 abbrev pub given : List Device → ℕ → ℕ
 given ds l = number (give 1 (levels l)) ds
@@ -54,10 +58,10 @@ numberRows =
     ∷ (map (λ d. asked (segments d font font)) (7 ∷ 8 ∷ []), 0 ∷ 6 ∷ [])
     ∷ (map (given (freshChain 1)) (0 ∷ 16 ∷ 31 ∷ 32 ∷ []), 0 ∷ 0 ∷ 0 ∷ 6 ∷ [])
     ∷ (map (λ i. asked (brightness i)) (15 ∷ 16 ∷ []), 0 ∷ 6 ∷ [])
-    ∷ (map (λ l. asked (plane lent lent 5 l)) (4 ∷ 5 ∷ 15 ∷ 16 ∷ []), 6 ∷ 0 ∷ 0 ∷ 6 ∷ [])
+    ∷ (joined (map (askedPart lent lent 5) (4 ∷ 5 ∷ 15 ∷ 16 ∷ [])), 6 ∷ 6 ∷ 0 ∷ 0 ∷ 0 ∷ 0 ∷ 6 ∷ 6 ∷ [])
     -- a lent plane not 16 long, or a glyph table not 128 long
-    ∷ (map (λ n. asked (plane (replicate n 0) lent 0 0)) (15 ∷ 16 ∷ 17 ∷ []), 6 ∷ 0 ∷ 6 ∷ [])
-    ∷ (map (λ n. asked (plane lent (replicate n 0) 0 0)) (15 ∷ 16 ∷ 17 ∷ []), 6 ∷ 0 ∷ 6 ∷ [])
+    ∷ (joined (map (λ n. askedPart (replicate n 0) lent 0 0) (15 ∷ 16 ∷ 17 ∷ [])), 6 ∷ 6 ∷ 0 ∷ 0 ∷ 6 ∷ 6 ∷ [])
+    ∷ (joined (map (λ n. askedPart lent (replicate n 0) 0 0) (15 ∷ 16 ∷ 17 ∷ [])), 6 ∷ 6 ∷ 0 ∷ 0 ∷ 6 ∷ 6 ∷ [])
     ∷ (map (λ n. asked (segments 0 (replicate n 0) font)) (127 ∷ 128 ∷ 129 ∷ []), 6 ∷ 0 ∷ 6 ∷ [])
     ∷ (map (λ n. asked (segments 0 font (replicate n 0))) (127 ∷ 128 ∷ 129 ∷ []), 6 ∷ 0 ∷ 6 ∷ [])
     -- 7: some record isn't sound, here of six pin levels, or a blink count of 4,000,000
@@ -87,6 +91,10 @@ blinking =
     ∷ (withBlink (taken powerUp 0x040D) 1000000 ∷ [])
     ∷ (withBlink (taken powerUp 0x040D) 2000000 ∷ [])
     ∷ []
+
+-- a driver in normal operation whose cathode 0 is of 14 segments
+abbrev pub drawn : List Device
+drawn = afterWords powerUp (0x0401 ∷ 0x0C01 ∷ []) ∷ []
 
 -- a driver of one key group whose key 0 has its mask bit set
 abbrev pub masked : List Device
@@ -121,6 +129,15 @@ answerRows =
     -- the plane shown, 0 for P0 and 1 for P1, of the planes that are lent too: E=0, slow and fast
     ∷ (joined (map (reply (ask 1 shown)) blinking), 0 ∷ 0 ∷ 1 ∷ 1 ∷ 0 ∷ [])
     ∷ (joined (map (reply (ask 1 (planeShown lent other 2 4))) blinking), 0 ∷ 0 ∷ 1 ∷ 1 ∷ 0 ∷ [])
+    -- the pins of cathode 0, of 14 segments, by the first table, of which d is lit; of cathode 1, a pair that shows 0 twice
+    ∷ (reply (ask 1 (segments 0 (replicate 128 0x0800) (replicate 128 0xF7FF))) drawn, 1 ∷ 0 ∷ 3 ∷ 4 ∷ 3 ∷ 3 ∷ 2 ∷ 4 ∷ replicate 11 3)
+    ∷ (
+      reply (ask 1 (segments 1 (replicate 128 0x0800) (replicate 128 0xF7FF))) drawn,
+      0 ∷ 1 ∷ 2 ∷ 4 ∷ 2 ∷ 2 ∷ 2 ∷ 3 ∷ 2 ∷ 2 ∷ 3 ∷ 2 ∷ 2 ∷ 2 ∷ 2 ∷ 2 ∷ 2 ∷ 3 ∷ 3 ∷ [],
+    )
+    -- brightness of digits 5 to 7 by their own nibbles (2), and of digit 5 by the global one (1)
+    ∷ (joined (map (λ i. reply (ask 1 (brightness i)) (afterWords powerUp (0x0441 ∷ 0x1321 ∷ []) ∷ [])) (5 ∷ 6 ∷ 7 ∷ [])), 1 ∷ 2 ∷ 2 ∷ 2 ∷ 3 ∷ 2 ∷ [])
+    ∷ (reply (ask 1 (brightness 5)) (afterWords powerUp (0x0401 ∷ 0x020A ∷ []) ∷ []), 11 ∷ 1 ∷ [])
     -- the interrupt, 1 where raised: after one scan of a key whose mask bit is set, and after two
     ∷ (joined (map (λ qs. reply (ask 1 interrupt) (afterAll qs masked)) (pressed ∷ (pressed ++ pressed) ∷ [])), 0 ∷ 1 ∷ [])
     -- scans, pin levels and clocks: what driver 2 of two was given, and driver 1 wasn't
@@ -128,7 +145,7 @@ answerRows =
     -- refused: an answer that would hold a number holds 0, a segment answer has no pin driven, a returned part is empty
     ∷ (reply (ask 1 (brightness 16)) (freshChain 1) ++ reply (ask 2 shown) (freshChain 1) ++ reply (ask 2 interrupt) (freshChain 1) ++ reply (ask 2 answerMark) (withMark powerUp 1 ∷ []), 0 ∷ 0 ∷ 0 ∷ 0 ∷ 0 ∷ [])
     ∷ (reply (ask 1 (segments 8 font font)) (freshChain 1), replicate 19 0)
-    ∷ (reply (ask 1 (plane lent lent 5 4)) (freshChain 1), [])
+    ∷ (reply (ask 1 (plane lent lent 5 4)) (freshChain 1) ++ reply (ask 1 (planeShown lent lent 5 4)) (freshChain 1), 0 ∷ [])
     -- nothing changes: neither the room nor the record
     ∷ (reply (access 16 (0x03 ∷ []) (0xEE ∷ 0xEE ∷ [])) (freshChain 1), 0xEE ∷ 0xEE ∷ [])
     ∷ (stateOf (access 16 (0x03 ∷ 0x03 ∷ []) (0xEE ∷ []) ∷ []) (freshChain 1) 1, 0 ∷ 0 ∷ 7 ∷ [])

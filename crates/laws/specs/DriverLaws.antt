@@ -2,11 +2,11 @@
 -- Assumes nothing.
 use Prim.Native.Nat.{ℕ, _+_, _/_, _%_, _<_}
 use mathlib.Core.Bool.{Bool, true, _&&_, _||_}
-use mathlib.Core.List.{List, [], _∷_, _++_}
+use mathlib.Core.List.{List, [], _∷_, _++_, map}
 use mathlib.Core.Path.{_≡_}
 use lib.Dec.{eqb}
 use lib.ListN.{getD}
-use Rattle.ground.specs.Choice.{bit}
+use Rattle.ground.specs.Choice.{if, bit}
 use Rattle.ground.specs.Lists.{Agree}
 use Rattle.registers.specs.declared.Registers.{Registers}
 use Rattle.device.specs.PowerUp.{powerUp}
@@ -52,10 +52,13 @@ pub record DriverLaws : Type 0 where
 abbrev pub firstDigit : List ℕ → ℕ
 firstDigit ws = getD (registersAfter powerUp ws .planes .p0) 0 0
 
--- writes to the same digit don't commute: the last one stands
+-- writes to the same digit don't commute: the last one stands; and the words that the laws speak of are among theirs
 abbrev pub orders : List (List ℕ × List ℕ)
 orders =
-    (firstDigit (0x2001 ∷ 0x6002 ∷ []) ∷ firstDigit (0x6002 ∷ 0x2001 ∷ []) ∷ [], 2 ∷ 1 ∷ [])
+    -- the no-op, and digit writes to either plane and to both; clears, whatever the other bits
+    (map (λ w. if (drawing w) 1 0) (0x0000 ∷ 0x2001 ∷ 0x4F02 ∷ 0x6BFF ∷ []), 1 ∷ 1 ∷ 1 ∷ 1 ∷ [])
+    ∷ (map (λ w. if (clearing w) 1 0) (0x0420 ∷ 0x04FF ∷ 0x0461 ∷ []), 1 ∷ 1 ∷ 1 ∷ [])
+    ∷ (firstDigit (0x2001 ∷ 0x6002 ∷ []) ∷ firstDigit (0x6002 ∷ 0x2001 ∷ []) ∷ [], 2 ∷ 1 ∷ [])
     ∷ (firstDigit (0x2001 ∷ 0x2002 ∷ []) ∷ firstDigit (0x2002 ∷ 0x2001 ∷ []) ∷ [], 2 ∷ 1 ∷ [])
     ∷ []
 

@@ -1,7 +1,7 @@
 -- The records of a script, one after another, and each byte of one.
 -- Assumes nothing.
-use Rattle.ground.proofs.Names.{ℕ, zero, suc, _+_, _*_, _/_, _%_, _-_, _≤_, _<_, arith, Bool, true, false, _&&_, true≢false, List, [], _∷_, _++_, _≡_, refl, sym, ap, _∙_, eqb, leb, length, take, drop, length-append, take-at, drop-at, eqb-true, leb-true, ne-eqb, le-leb, if, and-left, and-right, div-add-mod'}
-use Rattle.calls.specs.Calls.{clocks, give}
+use Rattle.ground.proofs.Names.{ℕ, zero, suc, _+_, _*_, _/_, _%_, _-_, _≤_, _<_, arith, Bool, true, false, _&&_, true≢false, List, [], _∷_, _++_, _≡_, refl, sym, ap, _∙_, eqb, leb, length, take, drop, replicate, tabulate, length-append, take-at, drop-at, eqb-true, leb-true, ne-eqb, le-leb, if, and-left, and-right, div-add-mod'}
+use Rattle.calls.specs.Calls.{scan, levels, clocks, segments, access, give, ask}
 use Rattle.printed.specs.Format.{byte, kindOf, bodyLength, sizeOf, bodyOf, lengthFits, wellFormed, callOf, Item, chain, call, malformed, itemAt, itemsAfter, items}
 use Rattle.printed.specs.ByteByByte.{entry, Unfit, ByteByByte}
 
@@ -95,18 +95,40 @@ unfit-length kind n u =
     (neither (eqb kind 5) (eqb n 5) _ (λ k l. u .no-clocks (eqb-true kind 5 k) (eqb-true n 5 l))
     (neither (eqb kind 6) (eqb n 2) false (λ k l. u .no-show (eqb-true kind 6 k) (eqb-true n 2 l)) (λ e. true≢false (sym e)))))))
 
--- four bytes by twos
+-- each kind's record
+chain-record : (n : ℕ) (rest : List ℕ) → items (entry 1 (n ∷ []) ++ rest) ≡ chain n ∷ items rest
+chain-record n rest = entry-first 1 (n ∷ []) rest refl
+
+access-record : (high low : ℕ) (bits rest : List ℕ)
+    → items (entry 2 (high ∷ low ∷ bits) ++ rest) ≡ call (access (256 * high + low) bits (replicate 512 0)) ∷ items rest
+access-record high low bits rest = entry-first 2 (high ∷ low ∷ bits) rest (le-leb 2 (length (high ∷ low ∷ bits)) (omega arith))
+
+scan-record : (j a b c d : ℕ) (rest : List ℕ) → items (entry 3 (j ∷ a ∷ b ∷ c ∷ d ∷ []) ++ rest) ≡ call (give j (scan a b c d)) ∷ items rest
+scan-record j a b c d rest = entry-first 3 (j ∷ a ∷ b ∷ c ∷ d ∷ []) rest refl
+
+pins-record : (j l : ℕ) (rest : List ℕ) → items (entry 4 (j ∷ l ∷ []) ++ rest) ≡ call (give j (levels l)) ∷ items rest
+pins-record j l rest = entry-first 4 (j ∷ l ∷ []) rest refl
+
 high-first : (a b c d : ℕ) → 65536 * (256 * a + b) + (256 * c + d) ≡ 16777216 * a + 65536 * b + 256 * c + d
 high-first a b c d = omega arith
 
+clocks-record : (j a b c d : ℕ) (rest : List ℕ)
+    → items (entry 5 (j ∷ a ∷ b ∷ c ∷ d ∷ []) ++ rest) ≡ call (give j (clocks (16777216 * a + 65536 * b + 256 * c + d))) ∷ items rest
+clocks-record j a b c d rest =
+    entry-first 5 (j ∷ a ∷ b ∷ c ∷ d ∷ []) rest refl ∙ ap (λ (k : ℕ). call (give j (clocks k)) ∷ items rest) (high-first a b c d)
+
+show-record : (j d : ℕ) (rest : List ℕ)
+    → items (entry 6 (j ∷ d ∷ []) ++ rest) ≡ call (ask j (segments d (tabulate 128 (λ k. 257 * k)) (tabulate 128 (λ k. 257 * k)))) ∷ items rest
+show-record j d rest = entry-first 6 (j ∷ d ∷ []) rest refl
+
 pub byte-by-byte : ByteByByte
 byte-by-byte = record {
-  chain-record = λ n rest. entry-first 1 (n ∷ []) rest refl;
-  access-record = λ high low bits rest. entry-first 2 (high ∷ low ∷ bits) rest (le-leb 2 (length (high ∷ low ∷ bits)) (omega arith));
-  scan-record = λ j a b c d rest. entry-first 3 (j ∷ a ∷ b ∷ c ∷ d ∷ []) rest refl;
-  pins-record = λ j l rest. entry-first 4 (j ∷ l ∷ []) rest refl;
-  clocks-record = λ j a b c d rest. entry-first 5 (j ∷ a ∷ b ∷ c ∷ d ∷ []) rest refl ∙ ap (λ (k : ℕ). call (give j (clocks k)) ∷ items rest) (high-first a b c d);
-  show-record = λ j d rest. entry-first 6 (j ∷ d ∷ []) rest refl;
+  chain-record = chain-record;
+  access-record = access-record;
+  scan-record = scan-record;
+  pins-record = pins-record;
+  clocks-record = clocks-record;
+  show-record = show-record;
   wrong-mark = λ a b s h. misfit (a ∷ b ∷ s) (λ f. h (f .mark-first) (f .mark-second));
   unfit = λ kind high low s u. misfit (0x5A ∷ 0xC3 ∷ kind ∷ high ∷ low ∷ s) (λ f. unfit-length kind (256 * high + low) u (f .body-fits));
   cut = λ kind high low s h. misfit (0x5A ∷ 0xC3 ∷ kind ∷ high ∷ low ∷ s) (λ f. omega (arith, h, f .whole));

@@ -69,10 +69,22 @@ lineRows =
       chainRecord 1 ++ entry 2 (0 ∷ 0 ∷ []),
       0x63 ∷ 0x68 ∷ 0x61 ∷ 0x69 ∷ 0x6E ∷ 0x20 ∷ 0x31 ∷ 0x0A ∷ 0x41 ∷ 0x0A ∷ [],
     )
-    -- after a refusal of 1 to 7 the run goes on: `chain 1`, `R 6`, `R 2`, `A`
+    -- after a refusal of 1 to 7 the run goes on: `chain 1`, `R 6`, `R 2`, `R 6`, `R 2`, `R 4`, `A`
     ∷ (
-      chainRecord 1 ++ entry 6 (1 ∷ 8 ∷ []) ++ entry 6 (2 ∷ 0 ∷ []) ++ entry 2 (0 ∷ 0 ∷ []),
-      (0x63 ∷ 0x68 ∷ 0x61 ∷ 0x69 ∷ 0x6E ∷ 0x20 ∷ 0x31 ∷ 0x0A ∷ []) ++ (0x52 ∷ 0x20 ∷ 0x36 ∷ 0x0A ∷ []) ++ (0x52 ∷ 0x20 ∷ 0x32 ∷ 0x0A ∷ []) ++ (0x41 ∷ 0x0A ∷ []),
+      chainRecord 1
+          ++ entry 6 (1 ∷ 8 ∷ [])
+          ++ entry 3 (2 ∷ 0 ∷ 0 ∷ 0 ∷ 0 ∷ [])
+          ++ entry 4 (1 ∷ 32 ∷ [])
+          ++ entry 5 (2 ∷ 0 ∷ 0 ∷ 0 ∷ 1 ∷ [])
+          ++ entry 2 (0 ∷ 16 ∷ 0x84 ∷ [])
+          ++ entry 2 (0 ∷ 0 ∷ []),
+      (0x63 ∷ 0x68 ∷ 0x61 ∷ 0x69 ∷ 0x6E ∷ 0x20 ∷ 0x31 ∷ 0x0A ∷ [])
+          ++ (0x52 ∷ 0x20 ∷ 0x36 ∷ 0x0A ∷ [])
+          ++ (0x52 ∷ 0x20 ∷ 0x32 ∷ 0x0A ∷ [])
+          ++ (0x52 ∷ 0x20 ∷ 0x36 ∷ 0x0A ∷ [])
+          ++ (0x52 ∷ 0x20 ∷ 0x32 ∷ 0x0A ∷ [])
+          ++ (0x52 ∷ 0x20 ∷ 0x34 ∷ 0x0A ∷ [])
+          ++ (0x41 ∷ 0x0A ∷ []),
     )
     -- a show where dark, 19 `-`: `chain 1`, `S ------------------- s`
     ∷ (

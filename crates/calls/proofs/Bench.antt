@@ -1,6 +1,6 @@
 -- The bench examples, by one computation over their table, and those of numbers, answers, answer marks, the planner, the look back and both families.
 -- Assumes nothing.
-use Rattle.ground.proofs.Names.{refl, tabulate, Agree}
+use Rattle.ground.proofs.Names.{[], _∷_, true≢false, sym, refl, replicate, tabulate, Agree}
 use Rattle.wire.specs.Bits.{bits, value, unpack, byteAt, pack, wordAt}
 use Rattle.wire.specs.Wire.{string, words, wire, answer, shifted}
 use Rattle.device.specs.Taken.{taken}
@@ -16,8 +16,10 @@ use Rattle.plans.specs.Plan.{steps, planBy, largest, accesses, planned}
 use Rattle.calls.specs.CallRefusals.{familiesBelow, allSound}
 use Rattle.calls.specs.Outcome.{number, after, reply}
 use Rattle.calls.specs.CallLists.{afterAll, numbers, replies}
-use Rattle.calls.specs.BenchTable.{table}
-use Rattle.calls.specs.Examples.{numberRows, answerRows, markRows, planRows, lookBackRows, familyRows, Examples}
+use Rattle.calls.specs.Isolation.{AllFull}
+use Rattle.calls.specs.NextAccess.{NoAccess}
+use Rattle.calls.specs.BenchTable.{accessOf, table}
+use Rattle.calls.specs.Examples.{others, numberRows, answerRows, markRows, planRows, lookBackRows, familyRows, Examples}
 
 bench : Agree table
 unfolding portTaken portPinned settled levels directions upperBits replaced statesOf tabulate bits value unpack byteAt pack wordAt string words wire answer shifted taken takes familiesBelow soundRecord pinned allSound number after reply afterAll numbers replies
@@ -47,5 +49,13 @@ bench-families : Agree familyRows
 unfolding portTaken portPinned settled levels directions upperBits replaced statesOf tabulate bits value unpack byteAt pack wordAt string words wire answer shifted taken takes familiesBelow soundRecord pinned allSound number after reply afterAll replies
 bench-families = refl
 
+bench-full : AllFull 2 (0 ∷ 1 ∷ []) (accessOf 32 (replicate 4 0x55) ∷ others)
+unfolding AllFull familiesBelow
+bench-full = ((λ e. refl), ((λ e. absurd (true≢false (sym e))), (tt, (tt, (tt, tt)))))
+
+bench-no-access : NoAccess 2 (0 ∷ 1 ∷ []) others
+unfolding NoAccess familiesBelow
+bench-no-access = (refl, tt)
+
 pub examples : Examples
-examples = record { bench = bench; numbers = bench-numbers; answers = bench-answers; marked = bench-marks; planned = bench-plans; looked-back = bench-looks; families = bench-families }
+examples = record { full = bench-full; no-access = bench-no-access; bench = bench; numbers = bench-numbers; answers = bench-answers; marked = bench-marks; planned = bench-plans; looked-back = bench-looks; families = bench-families }

@@ -148,16 +148,47 @@ bounds = 2 ∷ 4 ∷ 10 ∷ 12 ∷ 14 ∷ 23 ∷ 23 ∷ 24 ∷ 26 ∷ []
 
 rising : (q : Call) (ds : List Device) → Rising 0 (applying q ds) bounds
 rising q ds =
-    let fs = families ds in
-    (refl, refl, unless (ltb 0 (length ds) && ltb (length ds) 17) 1 refl,
-    (refl, refl, named (length ds) q,
-    (refl, refl, bytes q,
-    (refl, refl, argument fs q,
-    (refl, refl, unless (allSound ds) 7 refl,
-    (refl, refl, unless (familiesBelow 2 fs) 14 refl,
-    (refl, refl, when (lacks fs q) 14 refl,
-    (refl, refl, contents (length ds) q,
-    (refl, refl, shortest ds q, tt)))))))))
+    let fs = families ds in (
+      refl,
+      refl,
+      unless (ltb 0 (length ds) && ltb (length ds) 17) 1 refl,
+      (
+        refl,
+        refl,
+        named (length ds) q,
+        (
+          refl,
+          refl,
+          bytes q,
+          (
+            refl,
+            refl,
+            argument fs q,
+            (
+              refl,
+              refl,
+              unless (allSound ds) 7 refl,
+              (
+                refl,
+                refl,
+                unless (familiesBelow 2 fs) 14 refl,
+                (
+                  refl,
+                  refl,
+                  when (lacks fs q) 14 refl,
+                  (
+                    refl,
+                    refl,
+                    contents (length ds) q,
+                    (refl, refl, shortest ds q, tt),
+                  ),
+                ),
+              ),
+            ),
+          ),
+        ),
+      ),
+    )
 
 lowest : (q : Call) (ds : List Device) (i : ℕ) → (getD (applying q ds) i 0 ≡ 0 → ⊥)
     → (number q ds ≡ 0 → ⊥) × (place (number q ds) ≤ place (getD (applying q ds) i 0))

@@ -7,3 +7,4 @@ pub mod Marks
 pub mod Alone
 pub mod Bench
 pub mod InOrder
+pub mod Plans

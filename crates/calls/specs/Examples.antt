@@ -15,6 +15,8 @@ use Rattle.calls.specs.Calls.{scan, levels, clocks, Question, plane, pla
 use Rattle.calls.specs.Served.{recordOf}
 use Rattle.calls.specs.Outcome.{number, reply}
 use Rattle.calls.specs.CallLists.{afterAll, replies}
+use Rattle.calls.specs.Isolation.{AllFull}
+use Rattle.calls.specs.NextAccess.{NoAccess}
 use Rattle.calls.specs.AnswerMark.{marks}
 use Rattle.calls.specs.BenchTable.{accessOf, joined, stateOf, table}
 
@@ -302,8 +304,15 @@ familyRows =
     ∷ (marks (afterAll (twoWords 0x84 0x00 0x04 0x01 ∷ []) mixed) ++ marks (afterAll (twoWords 0x04 0x00 0x84 0x00 ∷ []) mixed), 0 ∷ 1 ∷ 1 ∷ 0 ∷ [])
     ∷ []
 
+-- calls of every kind on two drivers, of which the access is refused
+abbrev pub others : List Call
+others = access 16 [] [] ∷ give 1 (levels 3) ∷ ask 3 shown ∷ askChain (planCheck [] []) ∷ []
+
 -- what the definitions give is what the documents say
 pub record Examples : Type 0 where
+  -- lists that isolation and the next access speak of
+  pub full : AllFull 2 (0 ∷ 1 ∷ []) (accessOf 32 (replicate 4 0x55) ∷ others)
+  pub no-access : NoAccess 2 (0 ∷ 1 ∷ []) others
   pub bench : Agree table
   pub numbers : Agree numberRows
   pub answers : Agree answerRows

@@ -3,6 +3,7 @@ pub mod CallRefusals
 pub mod Served
 pub mod Outcome
 pub mod Order
+pub mod Planned
 pub mod CallLists
 pub mod Soundness
 pub mod NextAccess

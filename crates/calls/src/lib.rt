@@ -4,6 +4,7 @@ ghost use Rattle.calls.specs.Soundness.{Soundness};
 ghost use Rattle.calls.specs.NextAccess.{NextAccess};
 ghost use Rattle.calls.specs.AnswerMark.{AnswerMark};
 ghost use Rattle.calls.specs.Isolation.{Isolation};
+ghost use Rattle.calls.specs.Planned.{Planned};
 ghost use Rattle.calls.specs.Examples.{Examples};
 
 // A theorem: the number given is the first in the table's order of those that apply.
@@ -29,6 +30,11 @@ pub fn answer_mark()
 // A theorem, demand 3: after any list of calls each driver is as it would be alone.
 pub fn isolation()
     ensures { λ _. ⌜ Isolation ⌝ }
+{}
+
+// A theorem: the planner gives a shortest accepted list to every call that is served, and its check accepts exactly the accepted lists.
+pub fn planned()
+    ensures { λ _. ⌜ Planned ⌝ }
 {}
 
 // A theorem: the bench examples in one table, and examples of numbers, answers and both families.

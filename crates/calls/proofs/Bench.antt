@@ -19,6 +19,7 @@ use Rattle.calls.specs.CallLists.{afterAll, numbers, replies}
 use Rattle.calls.specs.Isolation.{AllFull}
 use Rattle.calls.specs.NextAccess.{NoAccess}
 use Rattle.calls.specs.BenchTable.{accessOf, table}
+use Rattle.calls.specs.OutputExamples.{shownRows, pinRows, brightnessRows, interruptRows, stepRows, OutputExamples}
 use Rattle.calls.specs.Examples.{others, numberRows, answerRows, markRows, planRows, lookBackRows, familyRows, Examples}
 
 bench : Agree table
@@ -32,6 +33,29 @@ bench-numbers = refl
 bench-answers : Agree answerRows
 unfolding tabulate taken takes familiesBelow soundRecord pinned allSound number after reply afterAll
 bench-answers = refl
+
+bench-shown : Agree shownRows
+unfolding tabulate taken familiesBelow soundRecord allSound number reply
+bench-shown = refl
+
+bench-pins : Agree pinRows
+unfolding tabulate taken familiesBelow soundRecord allSound number reply
+bench-pins = refl
+
+bench-brightness : Agree brightnessRows
+unfolding taken familiesBelow soundRecord allSound number reply
+bench-brightness = refl
+
+bench-interrupts : Agree interruptRows
+unfolding taken familiesBelow soundRecord allSound number after reply afterAll
+bench-interrupts = refl
+
+bench-steps : Agree stepRows
+unfolding taken familiesBelow soundRecord pinned allSound number after afterAll
+bench-steps = refl
+
+outputs : OutputExamples
+outputs = record { shown = bench-shown; pins = bench-pins; bright = bench-brightness; interrupts = bench-interrupts; stepped = bench-steps }
 
 bench-marks : Agree markRows
 unfolding bits value unpack byteAt pack wordAt string words wire answer shifted taken takes tabulate familiesBelow soundRecord pinned allSound number after reply afterAll
@@ -58,4 +82,4 @@ unfolding NoAccess familiesBelow
 bench-no-access = (refl, tt)
 
 pub examples : Examples
-examples = record { full = bench-full; no-access = bench-no-access; bench = bench; numbers = bench-numbers; answers = bench-answers; marked = bench-marks; planned = bench-plans; looked-back = bench-looks; families = bench-families }
+examples = record { full = bench-full; no-access = bench-no-access; bench = bench; numbers = bench-numbers; answers = bench-answers; outputs = outputs; marked = bench-marks; planned = bench-plans; looked-back = bench-looks; families = bench-families }

@@ -10,4 +10,5 @@ pub mod NextAccess
 pub mod AnswerMark
 pub mod Isolation
 pub mod BenchTable
+pub mod OutputExamples
 pub mod Examples

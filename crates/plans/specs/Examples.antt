@@ -1,14 +1,17 @@
 -- Believed: document 02, request 6: pictures and the words that lead to them, and lists that the check accepts or not.
 -- Assumes nothing.
-use Prim.Native.Nat.{ℕ}
+use Prim.Native.Nat.{ℕ, _*_}
 use mathlib.Core.Bool.{Bool, true, false}
 use mathlib.Core.List.{List, [], _∷_, _++_}
-use Rattle.ground.specs.Lists.{Agree}
+use Rattle.ground.specs.Choice.{if}
+use Rattle.ground.specs.Lists.{tabulate, Agree}
 use Rattle.digits.specs.Digits.{eight, cleared}
 use Rattle.digits.specs.declared.Planes.{Planes}
 use Rattle.device.specs.PowerUp.{powerUp, planes}
 use Rattle.device.specs.Taken.{taken}
 use Rattle.device.specs.declared.Device.{Device}
+use Rattle.plans.specs.Words.{allowed}
+use Rattle.plans.specs.Lists.{Given}
 use Rattle.plans.specs.Check.{acceptedList}
 use Rattle.plans.specs.Plan.{planOf, planned}
 
@@ -117,11 +120,6 @@ checks =
     ∷ (waiting 0x0001, false)
     ∷ (waiting 0x8000, false)
     ∷ (waiting 0x0207, false)
-    -- an intensity, and the unlisted addresses beside the digits
-    ∷ (waiting 0x1000, false)
-    ∷ (waiting 0x3000, false)
-    ∷ (waiting 0x5000, false)
-    ∷ (waiting 0x7000, false)
     -- a longer list
     ∷ (accepts (0x2000 ∷ 0x0000 ∷ 0x2041 ∷ 0x4307 ∷ 0x0000 ∷ 0x2908 ∷ []), true)
     -- other planes than wanted: P0, and P1
@@ -133,8 +131,19 @@ checks =
     ∷ (accepts (0x2041 ∷ 0x4307 ∷ 0x0000 ∷ 0x2908 ∷ 0x0000 ∷ []), false)
     ∷ []
 
+-- the words with data 0 at 0x00, 0x10 and so on, reads among them, that may be used: the no-op, and digit 0 of P0, of P1 and of both
+abbrev pub allowedRows : List (List ℕ × List ℕ)
+allowedRows = (
+  tabulate 16 (λ n. if (allowed before (4096 * n)) 1 0),
+  1 ∷ 0 ∷ 1 ∷ 0 ∷ 1 ∷ 0 ∷ 1 ∷ 0 ∷ 0 ∷ 0 ∷ 0 ∷ 0 ∷ 0 ∷ 0 ∷ 0 ∷ 0 ∷ [],
+)
+    ∷ []
+
 -- what the definitions give is what the request says
 pub record Examples : Type 0 where
+  pub may-be-used : Agree allowedRows
+  -- a chain of one driver, and contents of any bytes, are what the theorems speak of
+  pub given : Given (before ∷ []) (sparse .p0 ++ sparse .p1)
   pub drawn : Agree pictures
   pub listed : Agree lists
   pub checked : Agree checks

@@ -13,6 +13,7 @@ use Rattle.calls.specs.Isolation.{refusalAlone, accepted}
 
 -- what the number 0 says
 pub record Accepted (n : ℕ) (fs : List ℕ) (sound : Bool) (q : Call) : Type 0 where
+  pub some : chainRefusal n ≡ 0
   pub named : namedRefusal n q ≡ 0
   pub bytes : bytesRefusal q ≡ 0
   pub argument : argumentRefusal fs q ≡ 0
@@ -36,7 +37,7 @@ not-lacking false z = refl
 pub zero-says : (n : ℕ) (fs : List ℕ) (sound : Bool) (shortest : ℕ) (q : Call) → refusalBy n fs sound shortest q ≡ 0 → Accepted n fs sound q
 zero-says n fs sound shortest q z =
     let each = each-zero (chainRefusal n ∷ namedRefusal n q ∷ bytesRefusal q ∷ argumentRefusal fs q ∷ soundRefusal sound ∷ familyRefusal (familiesBelow 2 fs) ∷ lackRefusal (lacks fs q) ∷ contentsRefusal n q ∷ shortest ∷ []) z in
-    record { named = each 1; bytes = each 2; argument = each 3; all-sound = passed sound 0 6 (each 4) .0; known = passed (familiesBelow 2 fs) 0 13 (each 5) .0; has = not-lacking (lacks fs q) (each 6); contents = each 7 }
+    record { some = each 0; named = each 1; bytes = each 2; argument = each 3; all-sound = passed sound 0 6 (each 4) .0; known = passed (familiesBelow 2 fs) 0 13 (each 5) .0; has = not-lacking (lacks fs q) (each 6); contents = each 7 }
 
 pub number-says : (q : Call) (ds : List Device) → number q ds ≡ 0 → Accepted (length ds) (families ds) (allSound ds) q
 unfolding number

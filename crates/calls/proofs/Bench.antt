@@ -1,6 +1,6 @@
--- The bench examples, by one computation over the joined table, and those of numbers, answers, answer marks, the planner, the look back and both families.
+-- The bench examples, by one computation over their table, and those of numbers, answers, answer marks, the planner, the look back and both families.
 -- Assumes nothing.
-use Rattle.ground.proofs.Names.{refl, tabulate, Agree}
+use Rattle.ground.proofs.Names.{[], _∷_, true≢false, sym, refl, replicate, tabulate, Agree}
 use Rattle.wire.specs.Bits.{bits, value, unpack, byteAt, pack, wordAt}
 use Rattle.wire.specs.Wire.{string, words, wire, answer, shifted}
 use Rattle.device.specs.Taken.{taken}
@@ -13,18 +13,18 @@ use Rattle.plans.specs.Words.{every}
 use Rattle.plans.specs.Check.{below, same, acceptedWords, acceptedList}
 use Rattle.plans.specs.Least.{total}
 use Rattle.plans.specs.Plan.{steps, planBy, largest, accesses, planned}
-use Rattle.display.specs.Examples.{WireExamples}
 use Rattle.calls.specs.CallRefusals.{familiesBelow, allSound}
 use Rattle.calls.specs.Outcome.{number, after, reply}
 use Rattle.calls.specs.CallLists.{afterAll, numbers, replies}
-use Rattle.calls.specs.Examples.{rows, numberRows, answerRows, markRows, planRows, lookBackRows, familyRows, Examples}
+use Rattle.calls.specs.Isolation.{AllFull}
+use Rattle.calls.specs.NextAccess.{NoAccess}
+use Rattle.calls.specs.BenchTable.{accessOf, table}
+use Rattle.calls.specs.OutputExamples.{shownRows, pinRows, brightnessRows, interruptRows, stepRows, OutputExamples}
+use Rattle.calls.specs.Examples.{others, numberRows, answerRows, markRows, planRows, lookBackRows, familyRows, Examples}
 
-bench : Agree rows
+bench : Agree table
 unfolding portTaken portPinned settled levels directions upperBits replaced statesOf tabulate bits value unpack byteAt pack wordAt string words wire answer shifted taken takes familiesBelow soundRecord pinned allSound number after reply afterAll numbers replies
 bench = refl
-
-bench-wires : WireExamples
-bench-wires = refl
 
 bench-numbers : Agree numberRows
 unfolding tabulate familiesBelow soundRecord pinned allSound number
@@ -33,6 +33,29 @@ bench-numbers = refl
 bench-answers : Agree answerRows
 unfolding tabulate taken takes familiesBelow soundRecord pinned allSound number after reply afterAll
 bench-answers = refl
+
+bench-shown : Agree shownRows
+unfolding tabulate taken familiesBelow soundRecord allSound number reply
+bench-shown = refl
+
+bench-pins : Agree pinRows
+unfolding tabulate taken familiesBelow soundRecord allSound number reply
+bench-pins = refl
+
+bench-brightness : Agree brightnessRows
+unfolding taken familiesBelow soundRecord allSound number reply
+bench-brightness = refl
+
+bench-interrupts : Agree interruptRows
+unfolding taken familiesBelow soundRecord allSound number after reply afterAll
+bench-interrupts = refl
+
+bench-steps : Agree stepRows
+unfolding taken familiesBelow soundRecord pinned allSound number after afterAll
+bench-steps = refl
+
+outputs : OutputExamples
+outputs = record { shown = bench-shown; pins = bench-pins; bright = bench-brightness; interrupts = bench-interrupts; stepped = bench-steps }
 
 bench-marks : Agree markRows
 unfolding bits value unpack byteAt pack wordAt string words wire answer shifted taken takes tabulate familiesBelow soundRecord pinned allSound number after reply afterAll
@@ -50,5 +73,13 @@ bench-families : Agree familyRows
 unfolding portTaken portPinned settled levels directions upperBits replaced statesOf tabulate bits value unpack byteAt pack wordAt string words wire answer shifted taken takes familiesBelow soundRecord pinned allSound number after reply afterAll replies
 bench-families = refl
 
+bench-full : AllFull 2 (0 ∷ 1 ∷ []) (accessOf 32 (replicate 4 0x55) ∷ others)
+unfolding AllFull familiesBelow
+bench-full = ((λ e. refl), ((λ e. absurd (true≢false (sym e))), (tt, (tt, (tt, tt)))))
+
+bench-no-access : NoAccess 2 (0 ∷ 1 ∷ []) others
+unfolding NoAccess familiesBelow
+bench-no-access = (refl, tt)
+
 pub examples : Examples
-examples = record { bench = bench; wires = bench-wires; numbers = bench-numbers; answers = bench-answers; marked = bench-marks; planned = bench-plans; looked-back = bench-looks; families = bench-families }
+examples = record { full = bench-full; no-access = bench-no-access; bench = bench; numbers = bench-numbers; answers = bench-answers; outputs = outputs; marked = bench-marks; planned = bench-plans; looked-back = bench-looks; families = bench-families }

@@ -6,3 +6,5 @@ pub mod Next
 pub mod Marks
 pub mod Alone
 pub mod Bench
+pub mod InOrder
+pub mod Plans

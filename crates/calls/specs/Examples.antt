@@ -1,7 +1,7 @@
--- Believed: document 01, "Bench examples", 10 and 11 in the table of the display, the others in one, and "Numbers a call
--- may give", 1 to 7, 3 by example 12; document 02, requests 1, 2, 6, 8 and 9: what the definitions give beside what the documents say.
+-- Believed: document 01, "Bench examples" in their one table, "Numbers a call may give", 1 to 7, and what calls give back; document 02, requests
+-- 1, 2, 6, 8 and 9: what the definitions give beside what the documents say.
 -- Assumes nothing.
-use Prim.Native.Nat.{ℕ, _+_, _*_}
+use Prim.Native.Nat.{ℕ, _*_}
 use mathlib.Core.List.{List, [], _∷_, _++_, map}
 use lib.ListN.{replicate}
 use Rattle.ground.specs.Lists.{tabulate, Agree}
@@ -9,83 +9,16 @@ use Rattle.port_registers.specs.PortRecord.{withPins as withLevels}
 use Rattle.device.specs.PowerUp.{powerUp, powerUp6957, freshChain}
 use Rattle.device.specs.Record.{withPins, withBlink, withShift, withMark, withCommand, withPorts, withFamily}
 use Rattle.device.specs.Taken.{taken}
-use Rattle.device.specs.Examples.{rows as driverRows}
 use Rattle.device.specs.declared.Device.{Device}
-use Rattle.display.specs.Examples.{WireExamples, rows as displayRows}
 use Rattle.calls.specs.Calls.{scan, levels, clocks, Question, plane, planeShown, segments, brightness, shown, interrupt, answerMark, lookBack, ports, plan, planCheck, Call, access, give, ask, askChain}
 use Rattle.calls.specs.Served.{recordOf}
 use Rattle.calls.specs.Outcome.{number, reply}
-use Rattle.calls.specs.CallLists.{afterAll, numbers, replies}
+use Rattle.calls.specs.CallLists.{afterAll, replies}
+use Rattle.calls.specs.Isolation.{AllFull}
+use Rattle.calls.specs.NextAccess.{NoAccess}
 use Rattle.calls.specs.AnswerMark.{marks}
-
--- an access whose answer bytes have just room enough
-abbrev pub accessOf : ℕ → List ℕ → Call
-accessOf c sent = access c sent (map (λ b. 0) sent)
-
--- lists in one
-abbrev pub joined : List (List ℕ) → List ℕ
-joined [] = []
-joined (xs ∷ xss) = xs ++ joined xss
-
--- shift word, global intensity and scan limit of driver j after calls
-abbrev pub stateOf : List Call → List Device → ℕ → List ℕ
-stateOf qs ds j =
-    recordOf (afterAll qs ds) j .shift
-    ∷ recordOf (afterAll qs ds) j .registers .controls .global
-    ∷ recordOf (afterAll qs ds) j .registers .controls .limit
-    ∷ []
-
--- each example as what is evaluated and what the document says
-abbrev pub chainRows : List (List ℕ × List ℕ)
-chainRows =
-    -- 1: n=1, power-up, 0401, 8400, 0000: answers 0000, 0401, 8481
-    (
-      joined (replies (accessOf 16 (0x04 ∷ 0x01 ∷ []) ∷ accessOf 16 (0x84 ∷ 0x00 ∷ []) ∷ accessOf 16 (0x00 ∷ 0x00 ∷ []) ∷ []) (freshChain 1)),
-      0x00 ∷ 0x00 ∷ 0x04 ∷ 0x01 ∷ 0x84 ∷ 0x81 ∷ [],
-    )
-    -- 2: n=1, 17 clocks, a 1 and then 0203: global intensity 3
-    ∷ (stateOf (accessOf 17 (0x81 ∷ 0x01 ∷ 0x80 ∷ []) ∷ []) (freshChain 1) 1, 0x0203 ∷ 3 ∷ 7 ∷ [])
-    -- 3: then 0 clocks: 0203 is taken again; no answer bits
-    ∷ (stateOf (accessOf 17 (0x81 ∷ 0x01 ∷ 0x80 ∷ []) ∷ accessOf 0 [] ∷ []) (freshChain 1) 1, 0x0203 ∷ 3 ∷ 7 ∷ [])
-    ∷ (
-      joined (replies (accessOf 17 (0x81 ∷ 0x01 ∷ 0x80 ∷ []) ∷ access 0 [] (0xEE ∷ []) ∷ []) (freshChain 1)),
-      0x00 ∷ 0x00 ∷ 0x80 ∷ 0xEE ∷ [],
-    )
-    ∷ (numbers (accessOf 17 (0x81 ∷ 0x01 ∷ 0x80 ∷ []) ∷ accessOf 0 [] ∷ []) (freshChain 1), 0 ∷ 0 ∷ [])
-    -- 3, of a read: the debounced key is taken by 8800, and the same word, taken again at 0 clocks, finds none
-    ∷ (
-      map (λ qs. recordOf (afterAll qs (freshChain 1)) 1 .shift)
-          (
-          (accessOf 16 (0x06 ∷ 0x20 ∷ []) ∷ give 1 (scan 1 0 0 0) ∷ give 1 (scan 1 0 0 0) ∷ accessOf 16 (0x88 ∷ 0x00 ∷ []) ∷ [])
-          ∷ (accessOf 16 (0x06 ∷ 0x20 ∷ []) ∷ give 1 (scan 1 0 0 0) ∷ give 1 (scan 1 0 0 0) ∷ accessOf 16 (0x88 ∷ 0x00 ∷ []) ∷ accessOf 0 [] ∷ [])
-          ∷ []
-          ),
-      0x8801 ∷ 0x8800 ∷ [],
-    )
-    -- 4: n=2, 32 clocks, 0000 0303: driver 1 has scan limit 3, driver 2 a no-op
-    ∷ (stateOf (accessOf 32 (0x00 ∷ 0x00 ∷ 0x03 ∷ 0x03 ∷ []) ∷ []) (freshChain 2) 1, 0x0303 ∷ 0 ∷ 3 ∷ [])
-    ∷ (stateOf (accessOf 32 (0x00 ∷ 0x00 ∷ 0x03 ∷ 0x03 ∷ []) ∷ []) (freshChain 2) 2, 0x0000 ∷ 0 ∷ 7 ∷ [])
-    -- 5: n=2, power-up, 16 clocks 0305: driver 1 takes it, driver 2 takes 0000
-    ∷ (stateOf (accessOf 16 (0x03 ∷ 0x05 ∷ []) ∷ []) (freshChain 2) 1, 0x0305 ∷ 0 ∷ 5 ∷ [])
-    ∷ (stateOf (accessOf 16 (0x03 ∷ 0x05 ∷ []) ∷ []) (freshChain 2) 2, 0x0000 ∷ 0 ∷ 7 ∷ [])
-    -- 12: 4,096 clocks served; 4,097 gives 3
-    ∷ (
-      number (accessOf 4096 (replicate 512 0x55)) (freshChain 1) ∷ number (accessOf 4097 (replicate 513 0x55)) (freshChain 1) ∷ [],
-      0 ∷ 3 ∷ [],
-    )
-    ∷ []
-
--- 1 to 5 and 12 on a chain, 1, 8 and 9 on one driver, 6, 7 and request 2's bytes of the display
-abbrev pub rows : List (List ℕ × List ℕ)
-rows = chainRows ++ driverRows ++ displayRows
-
--- a plane whose digits hold their own places
-abbrev pub lent : List ℕ
-lent = tabulate 16 (λ i. i)
-
--- a plane whose digits hold 16 more
-abbrev pub other : List ℕ
-other = tabulate 16 (λ i. 16 + i)
+use Rattle.calls.specs.BenchTable.{accessOf, joined, stateOf, table}
+use Rattle.calls.specs.OutputExamples.{lent, other, OutputExamples}
 
 -- a glyph table
 abbrev pub font : List ℕ
@@ -94,6 +27,10 @@ font = replicate 128 0
 -- the number of a question to driver 1 of one
 abbrev pub asked : Question → ℕ
 asked q = number (ask 1 q) (freshChain 1)
+
+-- the numbers of a part of lent planes, and of which of them it is
+abbrev pub askedPart : List ℕ → List ℕ → ℕ → ℕ → List ℕ
+askedPart p0 p1 first last = asked (plane p0 p1 first last) ∷ asked (planeShown p0 p1 first last) ∷ []
 
 -- the number of pin levels for driver 1 of a chain
 abbrev pub given : List Device → ℕ → ℕ
@@ -115,10 +52,10 @@ numberRows =
     ∷ (map (λ d. asked (segments d font font)) (7 ∷ 8 ∷ []), 0 ∷ 6 ∷ [])
     ∷ (map (given (freshChain 1)) (0 ∷ 16 ∷ 31 ∷ 32 ∷ []), 0 ∷ 0 ∷ 0 ∷ 6 ∷ [])
     ∷ (map (λ i. asked (brightness i)) (15 ∷ 16 ∷ []), 0 ∷ 6 ∷ [])
-    ∷ (map (λ l. asked (plane lent lent 5 l)) (4 ∷ 5 ∷ 15 ∷ 16 ∷ []), 6 ∷ 0 ∷ 0 ∷ 6 ∷ [])
+    ∷ (joined (map (askedPart lent lent 5) (4 ∷ 5 ∷ 15 ∷ 16 ∷ [])), 6 ∷ 6 ∷ 0 ∷ 0 ∷ 0 ∷ 0 ∷ 6 ∷ 6 ∷ [])
     -- a lent plane not 16 long, or a glyph table not 128 long
-    ∷ (map (λ n. asked (plane (replicate n 0) lent 0 0)) (15 ∷ 16 ∷ 17 ∷ []), 6 ∷ 0 ∷ 6 ∷ [])
-    ∷ (map (λ n. asked (plane lent (replicate n 0) 0 0)) (15 ∷ 16 ∷ 17 ∷ []), 6 ∷ 0 ∷ 6 ∷ [])
+    ∷ (joined (map (λ n. askedPart (replicate n 0) lent 0 0) (15 ∷ 16 ∷ 17 ∷ [])), 6 ∷ 6 ∷ 0 ∷ 0 ∷ 6 ∷ 6 ∷ [])
+    ∷ (joined (map (λ n. askedPart lent (replicate n 0) 0 0) (15 ∷ 16 ∷ 17 ∷ [])), 6 ∷ 6 ∷ 0 ∷ 0 ∷ 6 ∷ 6 ∷ [])
     ∷ (map (λ n. asked (segments 0 (replicate n 0) font)) (127 ∷ 128 ∷ 129 ∷ []), 6 ∷ 0 ∷ 6 ∷ [])
     ∷ (map (λ n. asked (segments 0 font (replicate n 0))) (127 ∷ 128 ∷ 129 ∷ []), 6 ∷ 0 ∷ 6 ∷ [])
     -- 7: some record isn't sound, here of six pin levels, or a blink count of 4,000,000
@@ -149,7 +86,7 @@ answerRows =
     -- refused: an answer that would hold a number holds 0, a segment answer has no pin driven, a returned part is empty
     ∷ (reply (ask 1 (brightness 16)) (freshChain 1) ++ reply (ask 2 shown) (freshChain 1) ++ reply (ask 2 interrupt) (freshChain 1) ++ reply (ask 2 answerMark) (withMark powerUp 1 ∷ []), 0 ∷ 0 ∷ 0 ∷ 0 ∷ 0 ∷ [])
     ∷ (reply (ask 1 (segments 8 font font)) (freshChain 1), replicate 19 0)
-    ∷ (reply (ask 1 (plane lent lent 5 4)) (freshChain 1), [])
+    ∷ (reply (ask 1 (plane lent lent 5 4)) (freshChain 1) ++ reply (ask 1 (planeShown lent lent 5 4)) (freshChain 1), 0 ∷ [])
     -- nothing changes: neither the room nor the record
     ∷ (reply (access 16 (0x03 ∷ []) (0xEE ∷ 0xEE ∷ [])) (freshChain 1), 0xEE ∷ 0xEE ∷ [])
     ∷ (stateOf (access 16 (0x03 ∷ 0x03 ∷ []) (0xEE ∷ []) ∷ []) (freshChain 1) 1, 0 ∷ 0 ∷ 7 ∷ [])
@@ -306,12 +243,19 @@ familyRows =
     ∷ (marks (afterAll (twoWords 0x84 0x00 0x04 0x01 ∷ []) mixed) ++ marks (afterAll (twoWords 0x04 0x00 0x84 0x00 ∷ []) mixed), 0 ∷ 1 ∷ 1 ∷ 0 ∷ [])
     ∷ []
 
+-- calls of every kind on two drivers, of which the access is refused
+abbrev pub others : List Call
+others = access 16 [] [] ∷ give 1 (levels 3) ∷ ask 3 shown ∷ askChain (planCheck [] []) ∷ []
+
 -- what the definitions give is what the documents say
 pub record Examples : Type 0 where
-  pub bench : Agree rows
-  pub wires : WireExamples
+  -- lists that isolation and the next access speak of
+  pub full : AllFull 2 (0 ∷ 1 ∷ []) (accessOf 32 (replicate 4 0x55) ∷ others)
+  pub no-access : NoAccess 2 (0 ∷ 1 ∷ []) others
+  pub bench : Agree table
   pub numbers : Agree numberRows
   pub answers : Agree answerRows
+  pub outputs : OutputExamples
   pub marked : Agree markRows
   pub planned : Agree planRows
   pub looked-back : Agree lookBackRows

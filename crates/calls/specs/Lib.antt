@@ -2,10 +2,14 @@ pub mod Calls
 pub mod CallRefusals
 pub mod Served
 pub mod Outcome
+pub mod Order
+pub mod Planned
 pub mod CallLists
 pub mod Soundness
 pub mod NextAccess
 pub mod AnswerMark
 pub mod FittedBytes
 pub mod Isolation
+pub mod BenchTable
+pub mod OutputExamples
 pub mod Examples

@@ -127,6 +127,7 @@ clocks-add d a b =
 pub driver-laws : DriverLaws
 driver-laws =
     record {
+      digits-apart = λ k v hk hv. (digit-parts k v hk hv 2 .1, digit-parts k v hk hv 4 .1, digit-parts k v hk hv 6 .1);
       either-order = either-order;
       both-planes = both-planes;
       both-planes-turned = both-planes-turned;

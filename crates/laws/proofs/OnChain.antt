@@ -1,6 +1,6 @@
 -- The proof of `specs/ChainLaws.antt`'s laws: by demand 3 a driver of the chain takes its own words, one after the other.
 -- Assumes nothing.
-use Rattle.ground.proofs.Names.{ℕ, _*_, _≤_, Bool, true, _&&_, List, [], _∷_, _++_, map, _≡_, refl, sym, ap, ap₂, _∙_, eqb, length, eqb-true, if, and-left, and-right}
+use Rattle.ground.proofs.Names.{ℕ, _*_, _≤_, arith, Bool, true, _&&_, true≢false, List, [], _∷_, _++_, map, _≡_, refl, sym, ap, ap₂, _∙_, eqb, length, eqb-true, if, and-left, and-right}
 use mathlib.Core.List.{map-append}
 use Rattle.device.specs.Table15.{afterWords}
 use Rattle.device.specs.Taken.{taken}
@@ -10,7 +10,7 @@ use Rattle.device.specs.declared.Device.{Device}
 use Rattle.plans.specs.Words.{digitWrite}
 use Rattle.plans.proofs.Act.{or-cases}
 use Rattle.calls.specs.Calls.{access}
-use Rattle.calls.specs.CallRefusals.{allSound}
+use Rattle.calls.specs.CallRefusals.{familiesBelow, allSound}
 use Rattle.calls.specs.Served.{recordOf}
 use Rattle.calls.specs.Isolation.{accepted, ownWord, loneStep, lone, AllFull}
 use Rattle.calls.proofs.Alone.{isolated}
@@ -71,9 +71,22 @@ accepted-last n fs room a (b ∷ sents) h g =
       accepted-last n fs room a sents (and-right (accepted n fs (access (16 * n) b room)) _ h) g,
     )
 
+-- accesses and words that the laws speak of
+accepted-ones : allAccepted 2 (0 ∷ 1 ∷ []) (0 ∷ 0 ∷ 0 ∷ 0 ∷ []) ((0x20 ∷ 0x01 ∷ 0x00 ∷ 0x00 ∷ []) ∷ (0x28 ∷ 0x02 ∷ 0x20 ∷ 0x03 ∷ []) ∷ []) ≡ true
+unfolding allAccepted familiesBelow
+accepted-ones = refl
+
+apart-ones : Apart 0x2001 0x2802 × Apart 0x0000 0x2003
+apart-ones = (
+  record { first = refl; second = refl; digits = λ a b e. absurd (omega (arith, e)) },
+  record { first = refl; second = refl; digits = λ a b e. absurd (true≢false (sym a)) },
+)
+
 pub chain-laws : ChainLaws
 chain-laws =
     record {
+      accepted-ones = accepted-ones;
+      apart-ones = apart-ones;
       either-order = λ ds room a b s h i l g z p.
           own-words ds room (a ∷ b ∷ []) s h i l g z
           ∙ apart (recordOf ds i) (ownWord (length ds) i a) (ownWord (length ds) i b) p

@@ -1,6 +1,6 @@
 -- The proof of `specs/SlippedAccess.antt`'s laws: an access of at least 16n clocks shifts every old bit out, and a word taken decides shift word and mark.
 -- Assumes nothing.
-use Rattle.ground.proofs.Names.{ℕ, zero, suc, _-_, _*_, _/_, _%_, _≤_, _<_, le-of-suc-le-suc, not-suc-le-zero, arith, Bool, true, false, _&&_, List, [], _∷_, _++_, map, append-assoc, _≡_, refl, sym, ap, ap₂, _∙_, eqb, ltb, if, bit, length, take, drop, getD, replicate, length-map, drop-at, take-at, eqb-true, tabulate, tabulate-ext, and-left, and-right}
+use Rattle.ground.proofs.Names.{ℕ, zero, suc, _-_, _*_, _/_, _%_, _≤_, _<_, le-of-suc-le-suc, not-suc-le-zero, arith, Bool, true, false, _&&_, List, [], _∷_, _++_, map, append-assoc, _≡_, refl, sym, ap, ap₂, _∙_, eqb, ltb, if, bit, length, take, drop, getD, replicate, length-map, drop-at, take-at, eqb-true, tabulate, tabulate-ext, Agree, and-left, and-right}
 use Rattle.refusals.specs.Refusals.{bytesFor}
 use Rattle.words.specs.Addresses.{wordOf}
 use Rattle.words.specs.declared.Word.{Word}
@@ -29,7 +29,7 @@ use Rattle.calls.proofs.Accepted.{zero-says, number-alone, after-zero, reply-ze
 use Rattle.calls.proofs.Answered.{taken-at}
 use Rattle.calls.proofs.Records.{length-afterAll, families-afterAll}
 use Rattle.calls.proofs.Sound.{all-sound}
-use Rattle.laws.specs.SlippedAccess.{Whole, lastWord, Alike, AllAlike, shiftCleared, SlippedAccess, SlipExamples}
+use Rattle.laws.specs.SlippedAccess.{Whole, lastWord, Alike, AllAlike, shiftCleared, SlippedAccess, slips, SlipExamples}
 
 -- a list of calls with one more
 after-last : (qs : List Call) (q : Call) (ds : List Device) → afterAll (qs ++ q ∷ []) ds ≡ after q (afterAll qs ds)
@@ -232,6 +232,13 @@ slipped-access =
       cleared-marks = cleared-marks;
     }
 
-pub slip-examples : SlipExamples
+bench-slips : Agree slips
 unfolding tabulate bits value unpack wordAt string words wire shifted taken takes familiesBelow soundRecord pinned allSound number after afterAll
-slip-examples = refl
+bench-slips = refl
+
+some-whole : Whole 2 (0 ∷ 1 ∷ []) 33 (replicate 5 0x55) (replicate 6 0)
+unfolding familiesBelow
+some-whole = record { served = refl; clocks = omega arith }
+
+pub slip-examples : SlipExamples
+slip-examples = record { slipped = bench-slips; whole = some-whole }

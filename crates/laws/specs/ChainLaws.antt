@@ -38,6 +38,9 @@ pub record Apart (w v : ℕ) : Type 0 where
 
 -- for every sound chain and every driver of the old family in it
 pub record ChainLaws : Type 0 where
+  -- they speak of accesses to a mixed chain, of no-ops, and of digits d and da
+  pub accepted-ones : allAccepted 2 (0 ∷ 1 ∷ []) (0 ∷ 0 ∷ 0 ∷ 0 ∷ []) ((0x20 ∷ 0x01 ∷ 0x00 ∷ 0x00 ∷ []) ∷ (0x28 ∷ 0x02 ∷ 0x20 ∷ 0x03 ∷ []) ∷ []) ≡ true
+  pub apart-ones : Apart 0x2001 0x2802 × Apart 0x0000 0x2003
   -- two accesses that send no driver the same digit, in either order
   pub either-order : (ds : List Device) (room a b : List ℕ) → allSound ds ≡ true → allAccepted (length ds) (families ds) room (a ∷ b ∷ []) ≡ true
       → (i : ℕ) → 1 ≤ i → i ≤ length ds → recordOf ds i .family ≡ 0 → Apart (ownWord (length ds) i a) (ownWord (length ds) i b)

@@ -2,11 +2,11 @@
 -- Assumes nothing.
 use Prim.Native.Nat.{ℕ, _+_, _/_, _%_, _<_}
 use mathlib.Core.Bool.{Bool, true, _&&_, _||_}
-use mathlib.Core.List.{List, [], _∷_, _++_}
+use mathlib.Core.List.{List, [], _∷_, _++_, map}
 use mathlib.Core.Path.{_≡_}
 use lib.Dec.{eqb}
 use lib.ListN.{getD}
-use Rattle.ground.specs.Choice.{bit}
+use Rattle.ground.specs.Choice.{if, bit}
 use Rattle.ground.specs.Lists.{Agree}
 use Rattle.registers.specs.declared.Registers.{Registers}
 use Rattle.device.specs.PowerUp.{powerUp}
@@ -34,7 +34,9 @@ clearing w = eqb (w / 256) 4 && bit 5 (w % 256)
 
 -- for every record, sound or not
 pub record DriverLaws : Type 0 where
-  -- "digit writes to different digits commute": whatever planes they name. The same digit isn't claimed: see `orders`
+  -- each of the sixteen digits is one by itself, in either plane and in both
+  pub digits-apart : (k v : ℕ) → k < 16 → v < 256 → (digitOf (put0 k v) ≡ k) × (digitOf (put1 k v) ≡ k) × (digitOf (putBoth k v) ≡ k)
+  -- "writes to two different digits give the same in either order": whatever planes they name. The same digit isn't claimed: see `orders`
   pub either-order : (d : Device) (w v : ℕ) → digitWrite w ≡ true → digitWrite v ≡ true → (digitOf w ≡ digitOf v → ⊥)
       → registersAfter d (w ∷ v ∷ []) ≡ registersAfter d (v ∷ w ∷ [])
   -- a write to both planes is a write to P0 and one to P1, in either order
@@ -50,10 +52,13 @@ pub record DriverLaws : Type 0 where
 abbrev pub firstDigit : List ℕ → ℕ
 firstDigit ws = getD (registersAfter powerUp ws .planes .p0) 0 0
 
--- writes to the same digit don't commute: the last one stands
+-- writes to the same digit don't commute: the last one stands; and the words that the laws speak of are among theirs
 abbrev pub orders : List (List ℕ × List ℕ)
 orders =
-    (firstDigit (0x2001 ∷ 0x6002 ∷ []) ∷ firstDigit (0x6002 ∷ 0x2001 ∷ []) ∷ [], 2 ∷ 1 ∷ [])
+    -- the no-op, and digit writes to either plane and to both; clears, whatever the other bits
+    (map (λ w. if (drawing w) 1 0) (0x0000 ∷ 0x2001 ∷ 0x4F02 ∷ 0x6BFF ∷ []), 1 ∷ 1 ∷ 1 ∷ 1 ∷ [])
+    ∷ (map (λ w. if (clearing w) 1 0) (0x0420 ∷ 0x04FF ∷ 0x0461 ∷ []), 1 ∷ 1 ∷ 1 ∷ [])
+    ∷ (firstDigit (0x2001 ∷ 0x6002 ∷ []) ∷ firstDigit (0x6002 ∷ 0x2001 ∷ []) ∷ [], 2 ∷ 1 ∷ [])
     ∷ (firstDigit (0x2001 ∷ 0x2002 ∷ []) ∷ firstDigit (0x2002 ∷ 0x2001 ∷ []) ∷ [], 2 ∷ 1 ∷ [])
     ∷ []
 

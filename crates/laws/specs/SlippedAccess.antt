@@ -99,6 +99,7 @@ slips =
     ∷ (secondDigit (afterBits ((33, 0x10 ∷ 0x03 ∷ 0 ∷ 0 ∷ 0 ∷ []) ∷ [])) ∷ secondDigit (afterBits ((33, 0x10 ∷ 0x03 ∷ 0 ∷ 0 ∷ 0 ∷ []) ∷ (32, 0 ∷ 0 ∷ 0 ∷ 0 ∷ []) ∷ [])) ∷ [], 6 ∷ 6 ∷ [])
     ∷ []
 
--- they agree
-abbrev pub SlipExamples : Type 0
-SlipExamples = Agree slips
+-- they agree; and an access of a clock more than 16n, of spare room, is one that the laws speak of
+pub record SlipExamples : Type 0 where
+  pub slipped : Agree slips
+  pub whole : Whole 2 (0 ∷ 1 ∷ []) 33 (replicate 5 0x55) (replicate 6 0)

@@ -1,14 +1,17 @@
 -- Believed: document 02, request 6: pictures and the words that lead to them, and lists that the check accepts or not.
 -- Assumes nothing.
-use Prim.Native.Nat.{ℕ}
+use Prim.Native.Nat.{ℕ, _*_}
 use mathlib.Core.Bool.{Bool, true, false}
 use mathlib.Core.List.{List, [], _∷_, _++_}
-use Rattle.ground.specs.Lists.{Agree}
+use Rattle.ground.specs.Choice.{if}
+use Rattle.ground.specs.Lists.{tabulate, Agree}
 use Rattle.digits.specs.Digits.{eight, cleared}
 use Rattle.digits.specs.declared.Planes.{Planes}
 use Rattle.device.specs.PowerUp.{powerUp, planes}
 use Rattle.device.specs.Taken.{taken}
 use Rattle.device.specs.declared.Device.{Device}
+use Rattle.plans.specs.Words.{allowed}
+use Rattle.plans.specs.Lists.{Given}
 use Rattle.plans.specs.Check.{acceptedList}
 use Rattle.plans.specs.Plan.{planOf, planned}
 
@@ -32,6 +35,14 @@ sparse =
       p1 = 0 ∷ 0 ∷ 0 ∷ 0 ∷ 0 ∷ 4 ∷ 0 ∷ 0 ∷ 0 ∷ 0 ∷ 0 ∷ 0 ∷ 0 ∷ 0 ∷ 0 ∷ 0xFF ∷ [];
     }
 
+-- digit 0 another, digits 4 to 7 at 0
+abbrev pub tied : Planes
+tied =
+    record {
+      p0 = 0x41 ∷ 0x20 ∷ 0x20 ∷ 0x20 ∷ 0 ∷ 0 ∷ 0 ∷ 0 ∷ eight 0;
+      p1 = 0x41 ∷ 0x20 ∷ 0x20 ∷ 0x20 ∷ 0 ∷ 0 ∷ 0 ∷ 0 ∷ eight 0;
+    }
+
 -- every digit alike in both planes
 abbrev pub alike : Planes
 alike = record { p0 = eight 0x55 ++ eight 0x55; p1 = eight 0x55 ++ eight 0x55 }
@@ -49,6 +60,8 @@ pictures =
       0x6055 ∷ 0x6155 ∷ 0x6255 ∷ 0x6355 ∷ 0x6455 ∷ 0x6555 ∷ 0x6655 ∷ 0x6755
           ∷ 0x6855 ∷ 0x6955 ∷ 0x6A55 ∷ 0x6B55 ∷ 0x6C55 ∷ 0x6D55 ∷ 0x6E55 ∷ 0x6F55 ∷ [],
     )
+    -- five words with a clear or without: no clear on a tie
+    ∷ (planOf before tied, 0x6041 ∷ 0x6400 ∷ 0x6500 ∷ 0x6600 ∷ 0x6700 ∷ [])
     -- nothing to do
     ∷ (planOf before planes, [])
     ∷ []
@@ -118,8 +131,19 @@ checks =
     ∷ (accepts (0x2041 ∷ 0x4307 ∷ 0x0000 ∷ 0x2908 ∷ 0x0000 ∷ []), false)
     ∷ []
 
+-- the words with data 0 at 0x00, 0x10 and so on, reads among them, that may be used: the no-op, and digit 0 of P0, of P1 and of both
+abbrev pub allowedRows : List (List ℕ × List ℕ)
+allowedRows = (
+  tabulate 16 (λ n. if (allowed before (4096 * n)) 1 0),
+  1 ∷ 0 ∷ 1 ∷ 0 ∷ 1 ∷ 0 ∷ 1 ∷ 0 ∷ 0 ∷ 0 ∷ 0 ∷ 0 ∷ 0 ∷ 0 ∷ 0 ∷ 0 ∷ [],
+)
+    ∷ []
+
 -- what the definitions give is what the request says
 pub record Examples : Type 0 where
+  pub may-be-used : Agree allowedRows
+  -- a chain of one driver, and contents of any bytes, are what the theorems speak of
+  pub given : Given (before ∷ []) (sparse .p0 ++ sparse .p1)
   pub drawn : Agree pictures
   pub listed : Agree lists
   pub checked : Agree checks

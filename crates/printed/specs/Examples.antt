@@ -4,14 +4,11 @@
 use Prim.Native.Nat.{ℕ}
 use mathlib.Core.List.{List, [], _∷_, _++_, map}
 use mathlib.Core.Path.{_≡_}
-use lib.ListN.{length, replicate}
+use lib.ListN.{replicate}
 use Rattle.ground.specs.Lists.{Agree}
-use Rattle.printed.specs.Lines.{each, pinText, answerLine}
+use Rattle.printed.specs.Lines.{each, pinText, answerLine, refusalLine}
 use Rattle.printed.specs.Script.{printed}
-
--- a record of a kind, with a short body
-abbrev pub entry : ℕ → List ℕ → List ℕ
-entry kind body = 0x5A ∷ 0xC3 ∷ kind ∷ 0 ∷ length body ∷ body
+use Rattle.printed.specs.ByteByByte.{entry}
 
 -- a chain record
 abbrev pub chainRecord : ℕ → List ℕ
@@ -55,9 +52,9 @@ rows =
           ++ (0x53 ∷ 0x20 ∷ 0x43 ∷ 0x2D ∷ 0x30 ∷ 0x2D ∷ 0x30 ∷ 0x31 ∷ 0x31 ∷ 0x30 ∷ 0x31 ∷ 0x31 ∷ 0x31 ∷ 0x31 ∷ 0x31 ∷ 0x31 ∷ 0x31 ∷ 0x31 ∷ 0x31 ∷ 0x30 ∷ 0x30 ∷ 0x20 ∷ 0x73 ∷ 0x0A ∷ [])
           ++ (0x52 ∷ 0x20 ∷ 0x32 ∷ 0x0A ∷ []),
     )
-    -- a chain record that isn't first: `chain 16`, `R 8`
+    -- a chain record that isn't first, after which the run stops: `chain 16`, `R 8`
     ∷ (
-      chainRecord 16 ++ chainRecord 16,
+      chainRecord 16 ++ chainRecord 16 ++ entry 2 (0 ∷ 0 ∷ []),
       0x63 ∷ 0x68 ∷ 0x61 ∷ 0x69 ∷ 0x6E ∷ 0x20 ∷ 0x31 ∷ 0x36 ∷ 0x0A ∷ 0x52 ∷ 0x20 ∷ 0x38 ∷ 0x0A ∷ [],
     )
     -- a chain record refused with 1: `R 1` alone
@@ -71,6 +68,23 @@ lineRows =
     (
       chainRecord 1 ++ entry 2 (0 ∷ 0 ∷ []),
       0x63 ∷ 0x68 ∷ 0x61 ∷ 0x69 ∷ 0x6E ∷ 0x20 ∷ 0x31 ∷ 0x0A ∷ 0x41 ∷ 0x0A ∷ [],
+    )
+    -- after a refusal of 1 to 7 the run goes on: `chain 1`, `R 6`, `R 2`, `R 6`, `R 2`, `R 4`, `A`
+    ∷ (
+      chainRecord 1
+          ++ entry 6 (1 ∷ 8 ∷ [])
+          ++ entry 3 (2 ∷ 0 ∷ 0 ∷ 0 ∷ 0 ∷ [])
+          ++ entry 4 (1 ∷ 32 ∷ [])
+          ++ entry 5 (2 ∷ 0 ∷ 0 ∷ 0 ∷ 1 ∷ [])
+          ++ entry 2 (0 ∷ 16 ∷ 0x84 ∷ [])
+          ++ entry 2 (0 ∷ 0 ∷ []),
+      (0x63 ∷ 0x68 ∷ 0x61 ∷ 0x69 ∷ 0x6E ∷ 0x20 ∷ 0x31 ∷ 0x0A ∷ [])
+          ++ (0x52 ∷ 0x20 ∷ 0x36 ∷ 0x0A ∷ [])
+          ++ (0x52 ∷ 0x20 ∷ 0x32 ∷ 0x0A ∷ [])
+          ++ (0x52 ∷ 0x20 ∷ 0x36 ∷ 0x0A ∷ [])
+          ++ (0x52 ∷ 0x20 ∷ 0x32 ∷ 0x0A ∷ [])
+          ++ (0x52 ∷ 0x20 ∷ 0x34 ∷ 0x0A ∷ [])
+          ++ (0x41 ∷ 0x0A ∷ []),
     )
     -- a show where dark, 19 `-`: `chain 1`, `S ------------------- s`
     ∷ (
@@ -153,9 +167,15 @@ malformedRows =
 abbrev pub letterRows : List (List ℕ × List ℕ)
 letterRows = (each pinText (0 ∷ 1 ∷ 2 ∷ 3 ∷ 4 ∷ []), 0x2D ∷ 0x43 ∷ 0x31 ∷ 0x30 ∷ 0x2D ∷ []) ∷ []
 
--- an answer of no byte, `A`, and one of a byte, `A 0F`
+-- an answer of no byte, `A`, and of two, `A 9AF0`; refusals of one digit and of two, `R 9`, `R 10`, `R 14`
 abbrev pub answerRows : List (List ℕ × List ℕ)
-answerRows = (answerLine [], 0x41 ∷ 0x0A ∷ []) ∷ (answerLine (0x0F ∷ []), 0x41 ∷ 0x20 ∷ 0x30 ∷ 0x46 ∷ 0x0A ∷ []) ∷ []
+answerRows =
+    (answerLine [], 0x41 ∷ 0x0A ∷ [])
+    ∷ (answerLine (0x9A ∷ 0xF0 ∷ []), 0x41 ∷ 0x20 ∷ 0x39 ∷ 0x41 ∷ 0x46 ∷ 0x30 ∷ 0x0A ∷ [])
+    ∷ (refusalLine 9, 0x52 ∷ 0x20 ∷ 0x39 ∷ 0x0A ∷ [])
+    ∷ (refusalLine 10, 0x52 ∷ 0x20 ∷ 0x31 ∷ 0x30 ∷ 0x0A ∷ [])
+    ∷ (refusalLine 14, 0x52 ∷ 0x20 ∷ 0x31 ∷ 0x34 ∷ 0x0A ∷ [])
+    ∷ []
 
 -- the lines printed are those of the row, in every row of a table
 abbrev pub Printed : List (List ℕ × List ℕ) → Type 0

@@ -3,7 +3,7 @@
 use Prim.Native.Nat.{ℕ, _+_, _*_, _<_, _≤_}
 use mathlib.Core.List.{List}
 use mathlib.Core.Path.{_≡_}
-use lib.ListN.{length}
+use lib.ListN.{length, take, drop}
 use Rattle.printed.specs.Lines.{refusalLine}
 use Rattle.printed.specs.Format.{items}
 use Rattle.printed.specs.Script.{itemsPrinted, printed}
@@ -17,5 +17,10 @@ pub record Limits : Type 0 where
   -- 5: room fewer than what is printed may need; nothing is written
   pub no-room : (s out : List ℕ) → length s ≤ 65536 → length out < 16 + 4 * length s
       → (ranOf s out ≡ record { number = 5; length = 0 }) × (outAfter s out ≡ out)
-  -- else 0, and how many bytes are printed
+  pub no-room-too-long : (s out : List ℕ) → 65536 < length s → length out < 4 → (ranOf s out ≡ record { number = 5; length = 0 }) × (outAfter s out ≡ out)
+  -- else 0, and how many bytes are printed: those of `R 9` where it is too long
   pub room : (s out : List ℕ) → length s ≤ 65536 → 16 + 4 * length s ≤ length out → ranOf s out ≡ record { number = 0; length = length (printed s) }
+  pub room-too-long : (s out : List ℕ) → 65536 < length s → 4 ≤ length out → ranOf s out ≡ record { number = 0; length = 4 }
+  -- they stand first, and the room after them is as it was
+  pub first-bytes : (s out : List ℕ) → ranOf s out .number ≡ 0 → take (length (printed s)) (outAfter s out) ≡ printed s
+  pub later-bytes : (s out : List ℕ) → ranOf s out .number ≡ 0 → drop (length (printed s)) (outAfter s out) ≡ drop (length (printed s)) out

@@ -20,13 +20,17 @@ each f (x ∷ xs) = f x ++ each f xs
 abbrev pub digit : ℕ → ℕ
 digit v = 48 + v % 10
 
--- `chain n`, in decimal
-abbrev pub chainLine : ℕ → List ℕ
-chainLine n = 99 ∷ 104 ∷ 97 ∷ 105 ∷ 110 ∷ 32 ∷ if (ltb n 10) (digit n ∷ 10 ∷ []) (digit (n / 10) ∷ digit n ∷ 10 ∷ [])
+-- in decimal, and the line's end; chains and numbers have at most two digits (`calls::order`)
+abbrev pub decimal : ℕ → List ℕ
+decimal n = if (ltb n 10) (digit n ∷ 10 ∷ []) (digit (n / 10) ∷ digit n ∷ 10 ∷ [])
 
--- `R` and its number, for a refusal; the numbers are 1 to 9
+-- `chain n`
+abbrev pub chainLine : ℕ → List ℕ
+chainLine n = 99 ∷ 104 ∷ 97 ∷ 105 ∷ 110 ∷ 32 ∷ decimal n
+
+-- `R` and its number, for a refusal
 abbrev pub refusalLine : ℕ → List ℕ
-refusalLine n = 82 ∷ 32 ∷ digit n ∷ 10 ∷ []
+refusalLine n = 82 ∷ 32 ∷ decimal n
 
 -- upper-case hex
 abbrev pub hexDigit : ℕ → ℕ

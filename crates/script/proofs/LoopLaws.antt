@@ -12,7 +12,8 @@ use Rattle.printed.specs.Script.{callLine, runLines}
 use Rattle.script.specs.Progress.{lineOn, Written, Obeyed}
 use Rattle.script.specs.declared.Progress.{Progress}
 use Rattle.script.proofs.RoomLaws.{written-length, Left, all-written, part-written}
-use Rattle.script.proofs.FormatLaws.{items-first, size-zero, size-says, fits}
+use Rattle.printed.proofs.Records.{items-first, fits}
+use Rattle.script.proofs.FormatLaws.{size-zero, size-says}
 use Rattle.script.proofs.RunLaws.{to-end, records-after, row-wide, fresh-records}
 
 module _ (s : List ℕ) (ds : List Device) (h : 0 < length s) where

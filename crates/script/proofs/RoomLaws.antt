@@ -1,7 +1,7 @@
 -- Bytes written into room, one text after another.
 -- Assumes nothing.
-use Rattle.ground.proofs.Names.{ℕ, suc, _+_, _*_, _≤_, _<_, zero-add, add-zero, add-suc, suc-add, add-one, arith, List, [], _∷_, _++_, _≡_, refl, _∙_, length, set, drop, getD, length-append, drop-of-length-le, sets, length-sets, sets-eq, drop-cons}
-use Rattle.printed.specs.Lines.{each, hexByte, answerLine}
+use Rattle.ground.proofs.Names.{ℕ, suc, _+_, _*_, _/_, _≤_, _<_, zero-add, add-zero, add-suc, suc-add, add-one, arith, Bool, true, false, ltb, if, List, [], _∷_, _++_, _≡_, refl, _∙_, length, set, drop, getD, length-append, drop-of-length-le, sets, length-sets, sets-eq, drop-cons}
+use Rattle.printed.specs.Lines.{digit, decimal, each, hexByte, answerLine}
 use Rattle.script.specs.Progress.{Written}
 
 -- a text in two parts is its first part, and then its second after it
@@ -82,6 +82,14 @@ pub length-each : (f : ℕ → List ℕ) (k : ℕ) → ((x : ℕ) → length (f 
 unfolding each
 length-each f k h [] = omega arith
 length-each f k h (x ∷ xs) = rw (length-append, h x, length-each f k h xs) (omega arith)
+
+-- a number and the line's end are at most three bytes long
+pub decimal-short : (n : ℕ) → length (decimal n) ≤ 3
+decimal-short n = go (ltb n 10)
+  where
+    go : (b : Bool) → length (if b (digit n ∷ 10 ∷ []) (digit (n / 10) ∷ digit n ∷ 10 ∷ [])) ≤ 3
+    go true = omega arith
+    go false = omega arith
 
 -- an answer of no bytes, and of some
 pub answer-none : (bs : List ℕ) → length bs ≡ 0 → answerLine bs ≡ 65 ∷ 10 ∷ []

@@ -17,7 +17,7 @@ use Rattle.printed.specs.Lines.{each, hexByte, pinText, answerLine, markLetter,
 use Rattle.printed.specs.Script.{namedMark}
 use Rattle.script.specs.Progress.{Written, Given, Obeyed}
 use Rattle.script.specs.declared.Progress.{Progress}
-use Rattle.script.proofs.RoomLaws.{length-each}
+use Rattle.script.proofs.RoomLaws.{decimal-short, length-each}
 
 -- a part of some bytes to their end
 pub to-end : (k : ℕ) (l : List ℕ) → take (length l - k) (drop k l) ≡ drop k l
@@ -81,13 +81,13 @@ module _ (r : Row) (q : Call) (size at : ℕ) (out out′ : List ℕ) (done : Do
   same-row = rw e
 
   -- a call that is refused
-  pub refused : (end : ℕ) → 1 ≤ size → (done .number ≡ 0 → ⊥) → Written (refusalLine (done .number)) at out out′ end
+  pub refused : (end : ℕ) → 2 ≤ size → (done .number ≡ 0 → ⊥) → Written (refusalLine (done .number)) at out out′ end
       → Obeyed r q size at out out′ (record { row = done .row; at = end })
   refused end h z w =
       record {
         row-after = same-row;
         line = rw (refused-line q (numberOn r q) (replyOn r q) (namedMark q (records r)) (rw (← same-number) z), ← same-number) w;
-        short = omega (arith, w .place);
+        short = omega (arith, w .place, decimal-short (done .number));
       }
 
 -- an access that is served
@@ -107,7 +107,7 @@ answered r c sent room size at out out′ back done end e z b h w =
 
 -- a scan, pin levels or clocks
 pub given-obeyed : (r : Row) (j : ℕ) (s : Step) (size at : ℕ) (out out′ : List ℕ) (done : Done) (p : Progress)
-    → done ≡ doneOn r (give j s) → 1 ≤ size → Given done at out out′ p → Obeyed r (give j s) size at out out′ p
+    → done ≡ doneOn r (give j s) → 2 ≤ size → Given done at out out′ p → Obeyed r (give j s) size at out out′ p
 given-obeyed r j s size at out out′ done p e h g =
     record { row-after = g .row-after ∙ rw e; line = rw e at (g .line); short = omega (arith, g .short) }
 
@@ -129,6 +129,6 @@ module _ (r : Row) (j : ℕ) (q : Question) (size at : ℕ) (out out′ : List �
       }
 
   -- one that is refused
-  pub show-refused : (a .number ≡ 0 → ⊥) → 1 ≤ size → Written (refusalLine (a .number)) at out out′ end
+  pub show-refused : (a .number ≡ 0 → ⊥) → 2 ≤ size → Written (refusalLine (a .number)) at out out′ end
       → Obeyed r (ask j q) size at out out′ (record { row = r; at = end })
   show-refused z h w = refused r (ask j q) size at out out′ (record { number = a .number; row = r }) (rw (same-answer, ask-leaves r j q)) end h z w

@@ -2,7 +2,7 @@
 -- Assumes nothing.
 use Rattle.ground.proofs.Names.{ℕ, _+_, _*_, _/_, _≤_, _<_, arith, Bool, true, false, _&&_, List, [], _∷_, _++_, _≡_, refl, ltb, length, drop, eq-eqb, ne-eqb, lt-ltb, le-ltb, ltb-false, if}
 use Rattle.device.specs.PowerUp.{freshChain}
-use Rattle.printed.specs.Lines.{digit, chainLine, refusalLine}
+use Rattle.printed.specs.Lines.{chainLine, refusalLine}
 use Rattle.printed.specs.Format.{byte, kindOf, bodyLength, sizeOf, wellFormed, itemsAfter, items}
 use Rattle.printed.specs.Script.{runLines, assumedChain, itemsPrinted, longest, printed}
 use Rattle.printed.specs.Run.{roomFor, ranOf, outAfter}
@@ -10,7 +10,8 @@ use Rattle.script.specs.Progress.{Written, Started}
 use Rattle.printed.specs.declared.Ran.{Ran}
 use Rattle.script.specs.declared.Start.{Start}
 use Rattle.script.proofs.RoomLaws.{written-length, whole-written}
-use Rattle.script.proofs.FormatLaws.{items-first, size-zero, size-says, fits}
+use Rattle.printed.proofs.Records.{items-first, fits}
+use Rattle.script.proofs.FormatLaws.{size-zero, size-says}
 
 -- a script that doesn't begin with a chain record
 abbrev pub assumed : Start
@@ -50,14 +51,6 @@ module _ (s : List ℕ) (size : ℕ) (e : size ≡ if (wellFormed s) (sizeOf s) 
       go (b ∷ r) m =
           let h : 0 < length (b ∷ r) = omega arith in
           record { chain-length = rw (items-first (b ∷ r) h, m); others = rw (items-first (b ∷ r) h, m); within = omega arith }
-
--- the chain's line is at most nine bytes long
-pub chain-short : (n : ℕ) → length (chainLine n) ≤ 9
-chain-short n = omega (arith, go (ltb n 10))
-  where
-    go : (b : Bool) → length (if b (digit n ∷ 10 ∷ []) (digit (n / 10) ∷ digit n ∷ 10 ∷ [])) ≤ 3
-    go true = omega arith
-    go false = omega arith
 
 module _ (s : List ℕ) (p : Start) (w : Started s p) where
   -- a chain of 1 to 16 drivers

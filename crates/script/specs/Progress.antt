@@ -30,7 +30,7 @@ pub record Written (text : List ℕ) (at : ℕ) (out out′ : List ℕ) (at′ :
 pub record Given (done : Done) (at : ℕ) (out out′ : List ℕ) (p : Progress) : Type 0 where
   pub row-after : p .row ≡ done .row
   pub line : Written (if (eqb (done .number) 0) [] (refusalLine (done .number))) at out out′ (p .at)
-  pub short : p .at ≤ at + 4
+  pub short : p .at ≤ at + 5
 
 -- a call on a row, and its line written; the line is at most four bytes long for each of the record's size
 pub record Obeyed (r : Row) (q : Call) (size at : ℕ) (out out′ : List ℕ) (p : Progress) : Type 0 where

@@ -45,7 +45,7 @@ const ASSUMED_CHAIN: usize = 4;
 
 // A scan, pin levels or clocks: a line where they are refused.
 fn given(done: Done, out: &mut [u8], at: usize) -> Progress
-    requires { ⌜ at + 4 ≤ length (now out) ⌝ }
+    requires { ⌜ at + 5 ≤ length (now out) ⌝ }
     ensures { λ r. ⌜ Given done at (now (out .entry)) (now (out .exit)) r ⌝ }
 {
     let row = done.row;

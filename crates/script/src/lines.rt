@@ -2,7 +2,7 @@
 ghost use Prim.Native.Nat.{_+_, _*_, _<_, _≤_};
 ghost use mathlib.Core.Path.{_≡_};
 ghost use lib.ListN.{length};
-ghost use Rattle.printed.specs.Lines.{digit as digitOf, chainLine, refusalLine, hexDigit, hexByte, pinText, each, answerLine, letter as letterOf, markLetter, showLine};
+ghost use Rattle.printed.specs.Lines.{digit as digitOf, decimal as decimalOf, chainLine, refusalLine, hexDigit, hexByte, pinText, each, answerLine, letter as letterOf, markLetter, showLine};
 ghost use Rattle.script.specs.Progress.{Written};
 
 // Some bytes as they are.
@@ -27,24 +27,33 @@ fn digit(v: usize) -> u8
     (48 + v % 10) as u8
 }
 
+// A number of at most two digits, and the line's end.
+fn decimal(n: usize, out: &mut [u8], at: usize) -> usize
+    requires { ⌜ at + length (decimalOf n) ≤ length (now out) ⌝ }
+    ensures { λ r. ⌜ Written (decimalOf n) at (now (out .entry)) (now (out .exit)) r ⌝ }
+{
+    if n < 10 {
+        return text(&[digit(n), b'\n'], out, at);
+    }
+    text(&[digit(n / 10), digit(n), b'\n'], out, at)
+}
+
 // `chain n`.
 pub(crate) fn chain_line(n: usize, out: &mut [u8], at: usize) -> usize
     requires { ⌜ at + 9 ≤ length (now out) ⌝ }
     ensures { λ r. ⌜ Written (chainLine n) at (now (out .entry)) (now (out .exit)) r ⌝ }
 {
     let end = text(b"chain ", out, at);
-    if n < 10 {
-        return text(&[digit(n), b'\n'], out, end);
-    }
-    text(&[digit(n / 10), digit(n), b'\n'], out, end)
+    decimal(n, out, end)
 }
 
-// `R` and a number below 10.
+// `R` and a refusal's number.
 pub(crate) fn refusal_line(number: u8, out: &mut [u8], at: usize) -> usize
-    requires { ⌜ at + 4 ≤ length (now out) ⌝ }
+    requires { ⌜ at + length (refusalLine number) ≤ length (now out) ⌝ }
     ensures { λ r. ⌜ Written (refusalLine number) at (now (out .entry)) (now (out .exit)) r ⌝ }
 {
-    text(&[b'R', b' ', digit(number as usize), b'\n'], out, at)
+    let end = text(b"R ", out, at);
+    decimal(number as usize, out, end)
 }
 
 // An upper-case hex digit.

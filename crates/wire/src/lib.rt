@@ -8,6 +8,7 @@ ghost use Rattle.wire.specs.Bits.{bits, value, unpack, pack};
 ghost use Rattle.wire.specs.Wire.{words, answer, shifted};
 ghost use Rattle.wire.specs.Shift.{bytesInto, wordsAfter, roomAfter};
 ghost use Rattle.wire.specs.Whole.{WholeAccess};
+ghost use Rattle.wire.specs.AnyAccess.{AnyAccess};
 
 // The 16 bits from bit off on of three bytes in a row.
 fn window(b0: u8, b1: u8, b2: u8, off: u32) -> u16
@@ -144,6 +145,11 @@ pub fn shift(words: &mut [u16], n: usize, clocks: usize, sent: &[u8], room: &mut
         shift_part(words, n, clocks, sent, room);
     }
 }
+
+// A theorem: what an access of any number of clocks answers, and that spare bits don't matter.
+pub fn any_access()
+    ensures { λ _. ⌜ AnyAccess ⌝ }
+{}
 
 // A theorem: an access of at least 16 clocks for each driver.
 pub fn whole_access()

@@ -4,6 +4,7 @@ use Rattle.refusals.specs.Refusals.{bytesFor}
 use Rattle.calls.specs.Calls.{access}
 use Rattle.row.specs.declared.Done.{Done}
 use Rattle.printed.specs.Format.{word, answerRoom}
+use Rattle.script.proofs.RoomLaws.{decimal-short}
 use Rattle.script.proofs.RunLaws.{to-end, access-fits, answered, refused}
 use Rattle.script.proofs.accessed.Tie as tie
 
@@ -37,6 +38,9 @@ returns c =
     let d = c .before .before .before .before .before .before .before .before .access .ensures in
     answered (a .row) (word (a .body .now) 0) (drop 2 (a .body .now)) answerRoom _ (a .at) _ _ _ (c .before .before .before .before .before .before .before .before .access .result) _ (rw (w, to-end 2 (a .body .now)) at (d .0)) (c .before .before .before .before .before .if1 .taken) (rw (w, to-end 2 (a .body .now)) at (d .1)) (simp length-drop (omega arith)) (rw w at (c .before .before .answer-line .ensures))
 
+refusal-line-requires : tie.Need-refusal-line-requires
+refusal-line-requires c κs = omega (arith, decimal-short (c .before .before .before .before .access .result .number))
+
 returns-2 : tie.Need-returns-2
 returns-2 c =
     let a = c .before .before .before .before .before .before .before .before .before .before .before .before .before .args in
@@ -48,4 +52,4 @@ pub accessed-spec : {M : Type 1} → Rattle.script.proofs.accessed.Stat
 accessed-spec =
     tie.close
     (tie.spec (λ c κs. search needs) (λ c. search needs) (λ c. search needs) (λ c. search needs) (λ c. search needs) (λ c κs. search needs) (λ c. search needs)
-    array-share-prefix-room slice-aggregate-answer-line answer-line-requires (λ c. search needs) returns (λ c κs. search needs) (λ c. search needs) returns-2)
+    array-share-prefix-room slice-aggregate-answer-line answer-line-requires (λ c. search needs) returns refusal-line-requires (λ c. search needs) returns-2)

@@ -1,7 +1,7 @@
 -- `script::print` meets its contract. Assumes nothing.
 use Rattle.ground.proofs.Names.{_<_, arith, ltb, ltb-true, needs, and-right}
-use Rattle.script.proofs.RoomLaws.{written-length, both-written}
-use Rattle.script.proofs.StartLaws.{chain-short, prints-lines, prints-refusal}
+use Rattle.script.proofs.RoomLaws.{written-length, both-written, decimal-short}
+use Rattle.script.proofs.StartLaws.{prints-lines, prints-refusal}
 use Rattle.script.proofs.print.Tie as tie
 
 run-records-requires : tie.Need-run-records-requires
@@ -11,7 +11,7 @@ run-records-requires c κs =
     let v = c .before .before .before .before .before .chain-line .ensures in
     let n = c .before .before .before .before .before .before .before .before .start-of .result .n in
     let l : n < 17 = ltb-true n 17 (and-right (ltb 0 n) (ltb n 17) (c .before .before .before .before .before .before .before .if1 .taken)) in
-    (omega arith, w .within, c .before .before .before .before .before .before .before .before .before .before .before .pre .0, c .before .before .test-table .ensures, omega (arith, c .before .before .before .before .before .before .before .before .before .before .before .pre .1, v .place, chain-short n, written-length _ _ _ _ _ v))
+    (omega arith, w .within, c .before .before .before .before .before .before .before .before .before .before .before .pre .0, c .before .before .test-table .ensures, omega (arith, c .before .before .before .before .before .before .before .before .before .before .before .pre .1, v .place, decimal-short n, written-length _ _ _ _ _ v))
 
 returns : tie.Need-returns
 returns c =

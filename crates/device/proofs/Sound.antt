@@ -1,6 +1,7 @@
 -- The power-up record is sound, and each step leaves a sound record sound.
 -- Assumes nothing.
-use Rattle.ground.proofs.Names.{ℕ, _+_, _%_, arith, Bool, true, false, _&&_, _≡_, refl, ltb, lt-ltb, ltb-true, if, and-left, and-right, mod-small}
+use Rattle.ground.proofs.Names.{ℕ, _+_, _%_, arith, Bool, true, false, _&&_, and-assoc, _≡_, refl, ltb, lt-ltb, ltb-true, if, and-left, and-right, mod-small}
+use mathlib.Core.Bool.{and-true}
 use Rattle.words.specs.Addresses.{writtenAt, readAt, wordOf}
 use Rattle.words.specs.declared.Word.{Word}
 use Rattle.words.specs.declared.Word.the-variants.{Write, Read}
@@ -16,7 +17,7 @@ use Rattle.device.specs.Sound.{soundOf}
 use Rattle.device.specs.Taken.{obeyed, taken}
 use Rattle.device.specs.Steps.{scanned, clocked}
 use Rattle.device.specs.TwoWire.{nextAddress, commanded, received, sent}
-use Rattle.device.specs.Soundness.{Soundness}
+use Rattle.device.specs.Soundness.{bounds, allBelow, Soundness}
 use Rattle.device.specs.declared.Device.{Device}
 
 -- sound registers, a mark of 0 or 1 and a command address below 128 make a sound record
@@ -53,10 +54,15 @@ next-small a = go (ltb a 127) refl
     go true t = lt-ltb (a + 1) 128 (omega (arith, ltb-true a 127 t))
     go false t = refl
 
+-- the tests, one after the other
+exactly : (d : Device) → soundOf d ≡ allBelow (bounds d)
+exactly d = simp (and-assoc, and-true)
+
 pub soundness : Soundness
 unfolding taken commanded received sent
 soundness =
     record {
+      exactly = exactly;
       at-power-up = λ fitted. refl;
       after-write = λ d r v. kept-mark d (written (d .registers) r v) (write-sound (d .registers) r v);
       after-read = λ d r. kept-mark d (afterRead (d .registers) r) (after-sound (d .registers) r);

@@ -66,6 +66,8 @@ registerRows =
     -- 0x60+d writes both planes; R sets their bytes to 0, the intensities stay
     ∷ (found (afterWords powerUp (0x6055 ∷ 0x1077 ∷ [])) (0xA000 ∷ 0xC000 ∷ 0x9000 ∷ []), 0x55 ∷ 0x55 ∷ 0x77 ∷ [])
     ∷ (found (afterWords powerUp (0x6055 ∷ 0x1077 ∷ 0x0420 ∷ [])) (0xA000 ∷ 0xC000 ∷ 0x9000 ∷ []), 0 ∷ 0 ∷ 0x77 ∷ [])
+    -- pin levels given are what inputs read
+    ∷ (found (pinned powerUp 0x0A) (0x8500 ∷ []), 0x0A ∷ [])
     -- T sets the blink count to 0
     ∷ (map (λ n. phaseRead (taken (clocked powerUp 5) 0x0410) n) (1999999 ∷ 2000000 ∷ []), 1 ∷ 0 ∷ [])
     ∷ []
@@ -85,6 +87,11 @@ keyRows =
       map (λ w. taken (twice (afterWords powerUp (0x0680 ∷ w ∷ []))) 0x8500 .shift % 256) (0x0801 ∷ 0x0902 ∷ 0x0A04 ∷ 0x0B08 ∷ 0x0802 ∷ 0x0B04 ∷ 0x0D08 ∷ []),
       16 ∷ 16 ∷ 16 ∷ 16 ∷ 0 ∷ 0 ∷ 0 ∷ [],
     )
+    -- the interrupt of a key whose mask bit is set, at the second scan
+    ∷ (
+      map interruptOf (scanned (afterWords powerUp (0x0680 ∷ 0x0801 ∷ [])) 1 2 4 8 ∷ twice (afterWords powerUp (0x0680 ∷ 0x0801 ∷ [])) ∷ []),
+      0 ∷ 1 ∷ [],
+    )
     -- reading any debounced register clears it and the interrupt, and leaves the others
     ∷ (found (taken (twice (afterWords powerUp (0x0680 ∷ 0x0801 ∷ []))) 0x8900) (0x8500 ∷ 0x8800 ∷ 0x8900 ∷ []), 0 ∷ 1 ∷ 0 ∷ [])
     ∷ []
@@ -102,11 +109,18 @@ familyRows =
     -- pin levels of P24 raise INT, and a read of the mask clears it; a driver of the old family is not a MAX6957
     ∷ (map interruptOf (watching ∷ pinned watching 0x100000 ∷ takes (pinned watching 0x100000) 0x8600 ∷ []), 0 ∷ 1 ∷ 0 ∷ [])
     ∷ (powerUp .family ∷ powerUp6957 .family ∷ [], 0 ∷ 1 ∷ [])
-    -- sound by its own fields and the answer mark; of an unknown family nothing is tested
-    ∷ (
-      map (λ d. if (soundRecord d) 1 0) (withMark powerUp6957 2 ∷ withCommand powerUp6957 128 ∷ withPins powerUp6957 32 ∷ withFamily (withMark powerUp 2) 2 ∷ withPins powerUp 32 ∷ []),
-      0 ∷ 1 ∷ 1 ∷ 1 ∷ 0 ∷ [],
+    ∷ []
+
+-- request 8: sound by its own family's fields and the answer mark; of an unknown family nothing is tested
+abbrev pub soundRows : List (List ℕ × List ℕ)
+soundRows =
+    -- of a MAX6957: an answer mark of 2, 29 pin levels; a command address of 128, a pin level of the old family
+    (
+      map (λ d. if (soundRecord d) 1 0) (withMark powerUp6957 2 ∷ pinned powerUp6957 0x10000000 ∷ withCommand powerUp6957 128 ∷ withPins powerUp6957 32 ∷ []),
+      0 ∷ 0 ∷ 1 ∷ 1 ∷ [],
     )
+    -- of family 2, and of the old one
+    ∷ (map (λ d. if (soundRecord d) 1 0) (withFamily (withMark powerUp 2) 2 ∷ withPins powerUp 32 ∷ []), 1 ∷ 0 ∷ [])
     ∷ []
 
 -- what the definitions give is what the documents say
@@ -115,3 +129,4 @@ pub record Examples : Type 0 where
   pub registers : Agree registerRows
   pub keys : Agree keyRows
   pub families : Agree familyRows
+  pub sound : Agree soundRows

@@ -7,6 +7,7 @@ pub mod TwoWire
 pub mod Soundness
 pub mod ShiftWord
 pub mod FittedByte
+pub mod PlaneShown
 pub mod BothBuses
 pub mod Table15
 pub mod Examples

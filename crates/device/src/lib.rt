@@ -13,6 +13,7 @@ ghost use Rattle.device.specs.Soundness.{Soundness};
 ghost use Rattle.device.specs.BothFamilies.{BothFamilies};
 ghost use Rattle.device.specs.ShiftWord.{ShiftWord};
 ghost use Rattle.device.specs.FittedByte.{FittedByte};
+ghost use Rattle.device.specs.PlaneShown.{PlaneShown};
 ghost use Rattle.device.specs.BothBuses.{BothBuses};
 ghost use Rattle.device.specs.Table15.{Table15};
 ghost use Rattle.device.specs.Examples.{Examples};
@@ -359,7 +360,7 @@ fn next_address(a: u8) -> u8
     if a < 127 { a + 1 } else { 127 }
 }
 
-// A theorem: the power-up record is sound, and each step leaves a sound record sound.
+// A theorem: when a record is sound, that the power-up record is, and that each step leaves a sound record so.
 pub fn soundness()
     ensures { λ _. ⌜ Soundness ⌝ }
 {}
@@ -372,6 +373,11 @@ pub fn shift_word()
 // A theorem: nothing that a driver is given changes its fitted byte.
 pub fn fitted_byte()
     ensures { λ _. ⌜ FittedByte ⌝ }
+{}
+
+// A theorem: the plane shown is P0, or by E that of the phase that P reads.
+pub fn plane_shown()
+    ensures { λ _. ⌜ PlaneShown ⌝ }
 {}
 
 // A theorem: a byte of the two-wire bus writes and reads the registers that a word does, and what touches the command address.

@@ -19,7 +19,7 @@ use Rattle.display.specs.declared.Pin.the-variants.{NotDriven, Lit, Unli
 use Rattle.display.specs.ByTable.{allSegments, litSegments, pinBy, PinByPin}
 
 -- what lights a segment has the number of a bit
-abbrev pub numbered : Light → Bool
+abbrev numbered : Light → Bool
 numbered l = not (isLight l) || ltb (lightEntry l) 17
 
 -- a pin's place is one of the list's
@@ -86,7 +86,7 @@ module _ (x : Device) (d : ℕ) (font14 font16 : List ℕ)
   abbrev by-table : ℕ → Pin
   by-table p = pinBy (litSegments x d font14 font16) (wireEntry (ruleAt k d p))
 
-  pub pin-at : (p : ℕ) → p < 19 → if (dark x d) NotDriven (by-table p) ≡ pinAt x d font14 font16 p
+  pin-at : (p : ℕ) → p < 19 → if (dark x d) NotDriven (by-table p) ≡ pinAt x d font14 font16 p
   pin-at p hp = rw (lt-ltb d 8 hd, lt-ltb p 19 hp, rule-pin p hp)
 
 pub pin-by-pin : PinByPin

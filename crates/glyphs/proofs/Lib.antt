@@ -1,2 +1,3 @@
 pub mod Hex
+pub mod Tabled
 pub mod Segments

@@ -1,2 +1,3 @@
 pub mod Glyphs
 pub mod Masks
+pub mod Tables

@@ -3,6 +3,7 @@ ghost use mathlib.Core.Path.{_≡_};
 ghost use Prim.Native.Nat.{_<_};
 ghost use lib.ListN.{getD};
 ghost use Rattle.glyphs.specs.Masks.{hexFont, hexSegments, sevenSegments, pairSegments, glyphSegments, SegmentBySegment};
+ghost use Rattle.glyphs.specs.Tables.{GlyphTables};
 
 // Table 11: a to g of a character are bits 6 to 0 of its byte.
 const HEX_LOW: u64 = 0x7E // 0: a b c d e f
@@ -80,4 +81,9 @@ pub fn glyph_segments(font: &[u16], byte: u8) -> u32
 // A theorem: each segment of each display's list is lit where its bit is 1.
 pub fn segment_by_segment()
     ensures { λ _. ⌜ SegmentBySegment ⌝ }
+{}
+
+// A theorem: what a byte lights is what Tables 9 to 11 say.
+pub fn glyph_tables()
+    ensures { λ _. ⌜ GlyphTables ⌝ }
 {}

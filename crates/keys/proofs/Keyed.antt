@@ -1,11 +1,11 @@
 -- What a scan does, key by key and group by group.
 -- Assumes nothing.
-use Rattle.ground.proofs.Names.{ℕ, _-_, _/_, _<_, zero-div, arith, Bool, true, false, _&&_, or-true, _≡_, refl, _∙_, eqb, ltb, getD, bitAnd, and-le-l, eqb-true, eq-eqb, if, bit, all-at, and-bit, or-bit, not-bit, some-bit}
+use Rattle.ground.proofs.Names.{ℕ, _-_, _/_, _%_, _<_, zero-div, arith, Bool, true, false, _&&_, or-true, _≡_, refl, sym, _∙_, eqb, ltb, getD, bitAnd, and-le-l, eqb-true, eq-eqb, ne-eqb, ltb-true, ltb-false, if, bit, all-at, and-bit, or-bit, not-bit, some-bit}
 use Rattle.ground.specs.Choice.{some}
 use Rattle.words.specs.declared.KeyGroup.{KeyGroup}
 use Rattle.words.specs.declared.KeyGroup.the-variants.{A, B, C, D}
-use Rattle.keys.specs.Keys.{groupOf, withGroup, withInterrupt, debouncedRead, groupsOf, closedOf, newly, scannedGroup, raises, scannedKeys}
-use Rattle.keys.specs.KeyByKey.{table32, placeOf, keysOf, KeyScanned, KeyByKey}
+use Rattle.keys.specs.Keys.{groupOf, withGroup, withInterrupt, soundKeys, maskWritten, debouncedRead, groupsOf, closedOf, newly, scannedGroup, raises, scannedKeys}
+use Rattle.keys.specs.KeyByKey.{table32, placeOf, keysOf, KeyScanned, SameKeys, SamePress, KeyByKey}
 use Rattle.keys.specs.declared.Group.{Group}
 use Rattle.keys.specs.declared.Keys.{Keys}
 
@@ -22,6 +22,7 @@ key-scanned g closed k hk hh =
       new = simp (and-bit, not-bit 8 k (g .held) hk hh);
       debounced = or-bit k (g .debounced) (newly g closed);
       pressed = refl;
+      mask = refl;
       held = simp (and-bit, or-bit);
     }
 
@@ -63,6 +64,22 @@ own-group k g x = replaced k x g g ∙ rw (eq-eqb (placeOf g) (placeOf g) refl)
 other-group : (k : Keys) (g h : KeyGroup) (x : Group) → eqb (placeOf g) (placeOf h) ≡ false → groupOf (withGroup k g x) h ≡ groupOf k h
 other-group k g h x e = replaced k x g h ∙ rw e
 
+mask-alone : (k : Keys) (g : KeyGroup) (v : ℕ) → SameKeys (groupOf k g) (groupOf (maskWritten k g v) g)
+mask-alone k g v = rw own-group (record { debounced = refl; pressed = refl; held = refl })
+
+mask-interrupt : (k : Keys) (g : KeyGroup) (v : ℕ) → maskWritten k g v .interrupt ≡ k .interrupt
+mask-interrupt k g v = each (λ h. maskWritten k h v .interrupt ≡ k .interrupt) refl refl refl refl g
+
+read-alone : (k : Keys) (g : KeyGroup) → SamePress (groupOf k g) (groupOf (debouncedRead k g) g)
+read-alone k g = rw own-group (record { mask = refl; pressed = refl; held = refl })
+
+one-bit : (k : Keys) → soundKeys k ≡ eqb (k .interrupt % 2) (k .interrupt)
+one-bit k = go (ltb (k .interrupt) 2) refl
+  where
+    go : (b : Bool) → ltb (k .interrupt) 2 ≡ b → b ≡ eqb (k .interrupt % 2) (k .interrupt)
+    go true e = sym (eq-eqb (k .interrupt % 2) (k .interrupt) (omega (arith, ltb-true (k .interrupt) 2 e)))
+    go false e = sym (ne-eqb (k .interrupt % 2) (k .interrupt) (λ q. omega (arith, ltb-false (k .interrupt) 2 e)))
+
 read-interrupt : (k : Keys) (g : KeyGroup) → debouncedRead k g .interrupt ≡ 0
 read-interrupt k = each _ refl refl refl refl
 
@@ -80,8 +97,12 @@ key-by-key =
       raised-by = raised-by;
       not-raised = not-raised;
       masked = λ k g v. rw own-group;
+      mask-alone = mask-alone;
+      mask-interrupt = mask-interrupt;
       read-cleared = λ k g. rw own-group;
+      read-alone = read-alone;
       read-interrupt = read-interrupt;
       others-masked = λ k g h v e. other-group k g h _ e;
       others-read = read-others;
+      one-bit = one-bit;
     }

@@ -1,6 +1,6 @@
 -- Believed: document 01, "Keys", key by key: what a scan makes of key k of a group, and what scans and reads make of the four groups.
 -- Assumes nothing.
-use Prim.Native.Nat.{ℕ, _/_, _<_}
+use Prim.Native.Nat.{ℕ, _/_, _%_, _<_}
 use mathlib.Core.Bool.{true, false, not, _&&_, _||_}
 use mathlib.Core.List.{List, [], _∷_}
 use mathlib.Core.Path.{_≡_}
@@ -9,7 +9,7 @@ use lib.ListN.{getD}
 use Rattle.ground.specs.Choice.{bit, some}
 use Rattle.words.specs.declared.KeyGroup.{KeyGroup}
 use Rattle.words.specs.declared.KeyGroup.the-variants.{A, B, C, D}
-use Rattle.keys.specs.Keys.{groupOf, maskWritten, debouncedRead, groupsOf, closedOf, newly, scannedGroup, raises, scannedKeys}
+use Rattle.keys.specs.Keys.{groupOf, soundKeys, maskWritten, debouncedRead, groupsOf, closedOf, newly, scannedGroup, raises, scannedKeys}
 use Rattle.keys.specs.declared.Group.{Group}
 use Rattle.keys.specs.declared.Keys.{Keys}
 
@@ -36,8 +36,22 @@ pub record KeyScanned (g : Group) (closed k : ℕ) : Type 0 where
   pub debounced : bit k (scannedGroup g closed .debounced) ≡ (bit k (g .debounced) || bit k (newly g closed))
   -- pressed: this scan
   pub pressed : bit k (scannedGroup g closed .pressed) ≡ bit k closed
+  -- the mask stays
+  pub mask : scannedGroup g closed .mask ≡ g .mask
   -- held: closed, and held before or newly debounced
   pub held : bit k (scannedGroup g closed .held) ≡ (bit k closed && (bit k (g .held) || bit k (newly g closed)))
+
+-- the keys of two groups are alike: debounced, pressed and held
+pub record SameKeys (g h : Group) : Type 0 where
+  pub debounced : h .debounced ≡ g .debounced
+  pub pressed : h .pressed ≡ g .pressed
+  pub held : h .held ≡ g .held
+
+-- all but the debounced keys of two groups is alike
+pub record SamePress (g h : Group) : Type 0 where
+  pub mask : h .mask ≡ g .mask
+  pub pressed : h .pressed ≡ g .pressed
+  pub held : h .held ≡ g .held
 
 -- every key, in every scan and read
 pub record KeyByKey : Type 0 where
@@ -57,11 +71,15 @@ pub record KeyByKey : Type 0 where
   pub not-raised : (k : Keys) (ports a b c d : ℕ)
       → ((g : KeyGroup) → raises (groupOf k g) (closedOf ports (placeOf g) (keysOf a b c d g)) ≡ false)
       → scannedKeys k ports a b c d .interrupt ≡ k .interrupt
-  -- a mask written is that of its own group
+  -- a mask written is that of its own group, and changes nothing else, the interrupt neither
   pub masked : (k : Keys) (g : KeyGroup) (v : ℕ) → groupOf (maskWritten k g v) g .mask ≡ v
-  -- reading a debounced register clears it, and clears the interrupt
+  pub mask-alone : (k : Keys) (g : KeyGroup) (v : ℕ) → SameKeys (groupOf k g) (groupOf (maskWritten k g v) g)
+  pub mask-interrupt : (k : Keys) (g : KeyGroup) (v : ℕ) → maskWritten k g v .interrupt ≡ k .interrupt
+  pub others-masked : (k : Keys) (g h : KeyGroup) (v : ℕ) → eqb (placeOf g) (placeOf h) ≡ false → groupOf (maskWritten k g v) h ≡ groupOf k h
+  -- reading a debounced register clears it, and clears the interrupt; it leaves the rest of the group, and the other groups
   pub read-cleared : (k : Keys) (g : KeyGroup) → groupOf (debouncedRead k g) g .debounced ≡ 0
   pub read-interrupt : (k : Keys) (g : KeyGroup) → debouncedRead k g .interrupt ≡ 0
-  -- both leave the other groups
-  pub others-masked : (k : Keys) (g h : KeyGroup) (v : ℕ) → eqb (placeOf g) (placeOf h) ≡ false → groupOf (maskWritten k g v) h ≡ groupOf k h
+  pub read-alone : (k : Keys) (g : KeyGroup) → SamePress (groupOf k g) (groupOf (debouncedRead k g) g)
   pub others-read : (k : Keys) (g h : KeyGroup) → eqb (placeOf g) (placeOf h) ≡ false → groupOf (debouncedRead k g) h ≡ groupOf k h
+  -- sound: the interrupt is one bit
+  pub one-bit : (k : Keys) → soundKeys k ≡ eqb (k .interrupt % 2) (k .interrupt)

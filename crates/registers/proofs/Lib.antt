@@ -1,2 +1,3 @@
 pub mod Bare
+pub mod Back
 pub mod Sound

@@ -1,10 +1,14 @@
--- Believed: document 01, "Registers": what R and T do, and the registers that take nothing, or read 0.
+-- Believed: document 01, "Registers": what R and T do, the registers that take nothing, or read 0, and what a read leaves.
 -- Assumes nothing.
 use Prim.Native.Nat.{ℕ}
+use mathlib.Core.Logic.{_≢_}
 use mathlib.Core.Path.{_≡_}
 use Rattle.words.specs.declared.KeyGroup.{KeyGroup}
+use Rattle.words.specs.declared.Register.{Register}
 use Rattle.words.specs.declared.Register.the-variants.{NoOp, Configuration, KeyMask, KeyDebounced, KeyPressed, BothPlanes, Unlisted}
+use Rattle.keys.specs.Keys.{debouncedRead}
 use Rattle.digits.specs.Digits.{cleared}
+use Rattle.registers.specs.Record.{withKeys}
 use Rattle.registers.specs.Registers.{written, dataOf, afterRead}
 use Rattle.registers.specs.declared.Registers.{Registers}
 
@@ -18,10 +22,12 @@ pub record WrittenAndRead : Type 0 where
   pub t-alone : (x : Registers) → (written x Configuration 0x10 .planes ≡ x .planes) × (written x Configuration 0x10 .blink ≡ 0)
   -- the other six leave both
   pub neither : (x : Registers) → (written x Configuration 0xCF .planes ≡ x .planes) × (written x Configuration 0xCF .blink ≡ x .blink)
-  -- masks can't be read; a report of keys can't be written, and pressed keys stay when they are read
+  -- masks can't be read; a report of keys can't be written
   pub mask-read : (x : Registers) (g : KeyGroup) → dataOf x (KeyMask g) ≡ 0
   pub report-written : (x : Registers) (g : KeyGroup) (v : ℕ) → (written x (KeyDebounced g) v ≡ x) × (written x (KeyPressed g) v ≡ x)
-  pub pressed-read : (x : Registers) (g : KeyGroup) → afterRead x (KeyPressed g) ≡ x
+  -- a read of any register but the debounced keys leaves all as it was; of these it leaves all but the keys
+  pub left : (x : Registers) (r : Register) → ((g : KeyGroup) → r ≢ KeyDebounced g) → afterRead x r ≡ x
+  pub debounced-left : (x : Registers) (g : KeyGroup) → afterRead x (KeyDebounced g) ≡ withKeys x (debouncedRead (x .keys) g)
   -- 0x60+d "reads as 0x00" (Table 6)
   pub both-read : (x : Registers) (i : ℕ) → dataOf x (BothPlanes i) ≡ 0
   -- unlisted addresses read 0; writes to them do nothing

@@ -3,6 +3,7 @@ ghost use mathlib.Core.Path.{_≡_};
 ghost use Rattle.registers.specs.Record.{withControls, withIntensities, withKeys, withPlanes};
 ghost use Rattle.registers.specs.Registers.{configured, written, phaseOf, gpioDataOf, dataOf, afterRead};
 ghost use Rattle.registers.specs.WrittenAndRead.{WrittenAndRead};
+ghost use Rattle.registers.specs.ReadBack.{ReadBack};
 use controls::Config;
 use controls::Controls;
 use digits::Planes;
@@ -160,7 +161,12 @@ impl Registers {
     }
 }
 
-// A theorem: what R and T do, and the registers that take nothing, or read 0.
+// A theorem: what R and T do, the registers that take nothing, or read 0, and what a read leaves.
 pub fn written_and_read()
     ensures { λ _. ⌜ WrittenAndRead ⌝ }
+{}
+
+// A theorem: every register reads back as written, and a write changes what no other register reads.
+pub fn read_back()
+    ensures { λ _. ⌜ ReadBack ⌝ }
 {}

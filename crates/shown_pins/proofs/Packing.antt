@@ -1,18 +1,14 @@
 -- A pin's byte of a packed row and the segments that aren't lit is the number of the pin by the wiring table.
 -- Assumes nothing.
 use Rattle.ground.proofs.Names.{ℕ, zero, suc, _+_, _-_, _*_, _/_, _%_, _^_, _<_, arith, Bool, true, false, not, _&&_, _||_, Bool·beq, _≡_, refl, ap, sym, _∙_, bitAnd, bitOr, and-le-r, and-zero-r, or-zero-l, or-zero-r, and-mask, eqb, ltb, eqb-true, lt-ltb, ltb-true, ltb-false, if, bit, all, all-at, low-bit, high-bit, not-bit, same, if-small}
-use Rattle.wiring.specs.Segments.{Light, nothing, glyph, point, first, second, lightOf, isLight, isSegment}
-use Rattle.wiring.specs.Wiring.{Wire, cathode, notDriven, carries, wireAt}
-use Rattle.wiring.specs.Table.{lightEntry, wireEntry}
-use Rattle.wiring.specs.PackedRows.{byteOf, packed, litNumber, entryBit, packedWires, packedPins}
+use Rattle.wiring.specs.Table.{entryAt}
+use Rattle.wiring.specs.PackedRows.{byteOf, packed, litNumber, entryBit, packedEntries, pinEntry, packedPins}
 use Rattle.wiring.specs.declared.Display.{Display}
-use Rattle.wiring.specs.declared.Display.the-variants.{Sixteen, Fourteen, SevenPair}
 use Rattle.wiring.proofs.Bytes.{byte-packed, byte-and, byte-or, byte-add, byte-shifted, byte-repeated}
 use Rattle.display.specs.Pins.{pinCode}
-use Rattle.display.specs.declared.Pin.the-variants.{Lit, Unlit}
+use Rattle.display.specs.declared.Pin.the-variants.{NotDriven, Cathode, Lit, Unlit, NoSegment}
 use Rattle.display.specs.ByTable.{pinBy}
 use Rattle.shown_pins.specs.PackedPins.{ones, sevenBits, carriedBy, nonzeroBytes, eightPins, wordAt}
-use Rattle.display.proofs.Wires.{numbered}
 
 -- a byte that is not 0, marked in its highest bit
 marked : (v : ℕ) → v < 256 → bitOr (bitAnd v 127 + 127) v / 128 ≡ if (eqb v 0) 0 1
@@ -45,25 +41,24 @@ small-bit g n =
     let small = all-at (λ k. ltb (2 ^ k) 256) 8 refl (n % 8) (omega arith) in
     ltb-true _ _ (if-small (ltb n 17 && eqb (n / 8) g) (2 ^ (n % 8)) 0 256 small refl)
 
-small-number : (w : Wire) → litNumber w < 256
-small-number cathode = omega arith
-small-number notDriven = omega arith
-small-number (carries s) = ltb-true _ _ (if-small (isSegment s) 2 4 256 refl refl)
+small-number : (n : ℕ) → litNumber n < 256
+small-number n =
+    ltb-true _ _ (if-small (ltb n 17) 2 (if (eqb n 17) 4 (if (eqb n 18) 1 0)) 256 refl (if-small (eqb n 17) 4 (if (eqb n 18) 1 0) 256 refl (if-small (eqb n 18) 1 0 256 refl refl)))
 
--- the byte of a pin, by what the pin is to the cathode
-module _ (u i : ℕ) (wire : ℕ → Wire) (h : i < 8) where
-  bits : (g : ℕ) → byteOf (packed 8 (λ j. entryBit g (wireEntry (wire j)))) i ≡ entryBit g (wireEntry (wire i))
-  bits g = byte-packed 8 i (λ j. entryBit g (wireEntry (wire j))) (λ j. small-bit g (wireEntry (wire j))) h
+-- the byte of a pin, by its entry
+module _ (u i : ℕ) (entry : ℕ → ℕ) (h : i < 8) where
+  bits : (g : ℕ) → byteOf (packed 8 (λ j. entryBit g (entry j))) i ≡ entryBit g (entry i)
+  bits g = byte-packed 8 i (λ j. entryBit g (entry j)) (λ j. small-bit g (entry j)) h
 
-  carried : byteOf (carriedBy u (packedWires 8 wire)) i ≡ picked u (wireEntry (wire i))
+  carried : byteOf (carriedBy u (packedEntries 8 entry)) i ≡ picked u (entry i)
   carried =
       let small : (g : ℕ) → byteOf u g < 256 = λ g. omega arith in
       simp (byte-or, byte-and, byte-repeated, small, bits 0, bits 1, bits 2)
 
-  eight : byteOf (eightPins u (packedWires 8 wire)) i ≡ bitOr (litNumber (wire i)) (if (eqb (picked u (wireEntry (wire i))) 0) 0 1)
+  eight : byteOf (eightPins u (packedEntries 8 entry)) i ≡ bitOr (litNumber (entry i)) (if (eqb (picked u (entry i)) 0) 0 1)
   unfolding eightPins
   eight =
-      rw (byte-or, byte-packed 8 i (λ j. litNumber (wire j)) (λ j. small-number (wire j)) h, nonzero _ i h, carried)
+      rw (byte-or, byte-packed 8 i (λ j. litNumber (entry j)) (λ j. small-number (entry j)) h, nonzero _ i h, carried)
 
 -- a bit of a byte, by the mask that has it alone
 abbrev tested : ℕ → ℕ → Bool
@@ -93,11 +88,9 @@ picked-bit u n h =
     rw (lt-ltb n 17 h, one-byte u (2 ^ (n % 8)) (n / 8) (omega arith))
     (masked (byteOf u (n / 8)) (n % 8) (omega arith) (omega arith) ∙ ap not (byte-bit u n))
 
--- a pin that carries such a segment, or none
-abbrev numbered-wire : Wire → Bool
-numbered-wire cathode = true
-numbered-wire notDriven = true
-numbered-wire (carries s) = numbered (lightOf s)
+-- no other entry is among them
+not-picked : (u n : ℕ) → ltb n 17 ≡ false → picked u n ≡ 0
+not-picked u n e = simp (e, and-zero-r)
 
 -- the number of a pin, by the segments that aren't lit, is its number by those that are
 module _ (segments : ℕ) (hs : segments < 2 ^ 64) where
@@ -116,27 +109,19 @@ module _ (segments : ℕ) (hs : segments < 2 ^ 64) where
       go true = refl
       go false = refl
 
-  light-pin : (l : Light) → numbered l ≡ true → number (if (isLight l) 2 4) (lightEntry l) ≡ pinCode (pinBy segments (lightEntry l))
-  light-pin nothing e = simp and-zero-r
-  light-pin (glyph n) e = segment-pin n e
-  light-pin point e = segment-pin 16 e
-  light-pin (first n) e = segment-pin n e
-  light-pin (second n) e = segment-pin (n + 8) e
+  entry-pin : (n : ℕ) → number (litNumber n) n ≡ pinCode (pinBy segments n)
+  entry-pin n = go (ltb n 17) refl
+    where
+      codes : (a b : Bool) → if a 4 (if b 1 0) ≡ pinCode (if a NoSegment (if b Cathode NotDriven))
+      codes true b = refl
+      codes false true = refl
+      codes false false = refl
 
-  wire-pin : (w : Wire) → numbered-wire w ≡ true → number (litNumber w) (wireEntry w) ≡ pinCode (pinBy segments (wireEntry w))
-  wire-pin cathode e = simp and-zero-r
-  wire-pin notDriven e = simp and-zero-r
-  wire-pin (carries s) e = light-pin (lightOf s) e
-
--- every pin of a cathode is one of these
-tested-wires : (k : Display) → all (λ d. all (λ p. numbered-wire (wireAt k d p)) 19) 8 ≡ true
-tested-wires Sixteen = refl
-tested-wires Fourteen = refl
-tested-wires SevenPair = refl
-
-wire-numbered : (k : Display) (d p : ℕ) → d < 8 → p < 19 → numbered-wire (wireAt k d p) ≡ true
-wire-numbered k d p hd hp =
-    all-at (λ r. numbered-wire (wireAt k d r)) 19 (all-at (λ c. all (λ r. numbered-wire (wireAt k c r)) 19) 8 (tested-wires k) d hd) p hp
+      go : (b : Bool) → ltb n 17 ≡ b → number (litNumber n) n ≡ pinCode (pinBy segments n)
+      go true e = let l : litNumber n ≡ 2 = rw e in ap (λ v. number v n) l ∙ segment-pin n e
+      go false e =
+          let number-alone = ap (λ q. bitOr (litNumber n) (if (eqb q 0) 0 1)) (not-picked unlit n e) ∙ or-zero-r (litNumber n) in
+          number-alone ∙ rw e (codes (eqb n 17) (eqb n 18))
 
 -- a pin of a packed row
 module _ (k : Display) (d p segments : ℕ) (hd : d < 8) (hp : p < 19) (hs : segments < 2 ^ 64) where
@@ -144,12 +129,14 @@ module _ (k : Display) (d p segments : ℕ) (hd : d < 8) (hp : p < 19) (hs : seg
   word q = eightPins (2 ^ 64 - 1 - segments) (packedPins k d q)
 
   abbrev by-table : ℕ
-  by-table = pinCode (pinBy segments (wireEntry (wireAt k d p)))
+  by-table = pinCode (pinBy segments (entryAt k d p))
 
   in-word : (q : ℕ) → q + p % 8 ≡ p → byteOf (word q) (p % 8) ≡ by-table
   in-word q e =
-      eight (2 ^ 64 - 1 - segments) (p % 8) (λ i. wireAt k d (q + i)) (omega arith)
-      ∙ rw e (wire-pin segments hs (wireAt k d p) (wire-numbered k d p hd hp))
+      let entry : pinEntry k d (q + p % 8) ≡ entryAt k d p = rw (e, lt-ltb d 8 hd, lt-ltb p 19 hp) in
+      eight (2 ^ 64 - 1 - segments) (p % 8) (λ i. pinEntry k d (q + i)) (omega arith)
+      ∙ entry-pin segments hs (pinEntry k d (q + p % 8))
+      ∙ ap (λ n. pinCode (pinBy segments n)) entry
 
   pub row-pin : byteOf (wordAt (word 0) (word 8) (word 16) p) (p % 8) ≡ by-table
   row-pin = go (ltb p 8) (ltb p 16) refl refl

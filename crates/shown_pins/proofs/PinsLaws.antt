@@ -2,8 +2,7 @@
 -- Assumes nothing.
 use Rattle.ground.proofs.Names.{ℕ, _+_, _-_, _^_, _<_, true, false, List, _≡_, ap, _∙_, getD, lt-ltb, if, tabulate, tabulate-ext}
 use Rattle.device.specs.declared.Device.{Device}
-use Rattle.wiring.specs.Wiring.{ruleAt, wireAt}
-use Rattle.wiring.specs.Table.{wireEntry}
+use Rattle.wiring.specs.Table.{entryAt}
 use Rattle.wiring.specs.PackedRows.{packedRow}
 use Rattle.wiring.specs.declared.Display.{Display}
 use Rattle.wiring.specs.declared.PackedRow.{PackedRow}
@@ -11,8 +10,8 @@ use Rattle.brightness.specs.Dark.{dark}
 use Rattle.display.specs.Cathode.{displayOf, shownByte}
 use Rattle.display.specs.Pins.{pinCode, pinAt}
 use Rattle.display.specs.declared.Pin.the-variants.{NotDriven}
-use Rattle.display.specs.ByTable.{litSegments, pinBy}
-use Rattle.display.proofs.Wires.{pin-at}
+use Rattle.display.specs.ByTable.{litSegments, pinBy, tablePin}
+use Rattle.display.proofs.Wires.{pin-by-pin}
 use Rattle.shown_pins.specs.PackedPins.{pinsBy}
 use Rattle.shown_pins.proofs.Packing.{row-pin}
 
@@ -30,10 +29,10 @@ module _ (x : Device) (d : ℕ) (font14 font16 : List ℕ)
       → row ≡ packedRow r d
       → pinsBy (2 ^ 64 - 1 - segments) row ≡ tabulate 19 (λ p. pinCode (pinAt x d font14 font16 p))
   pins-lit {segments} hs bright e es er =
-      rw (er, e) (tabulate-ext 19 _ _ (λ p hp. row-pin k d p segments hd hp hs ∙ ap pinCode (read p hp ∙ pin-at x d font14 font16 first-byte second-byte words14 words16 hd p hp)))
+      rw (er, e) (tabulate-ext 19 _ _ (λ p hp. row-pin k d p segments hd hp hs ∙ ap pinCode (read p ∙ pin-by-pin x d font14 font16 p first-byte second-byte words14 words16 hd hp)))
     where
-      read : (p : ℕ) → p < 19 → pinBy segments (wireEntry (wireAt k d p)) ≡ if (dark x d) NotDriven (pinBy (litSegments x d font14 font16) (wireEntry (ruleAt k d p)))
-      read p hp = rw (es, lt-ltb d 8 hd, lt-ltb p 19 hp, bright)
+      read : (p : ℕ) → pinBy segments (entryAt k d p) ≡ tablePin x d font14 font16 p
+      read p = rw (es, bright)
 
 -- the pins of a dark cathode
 pub pins-dark : (x : Device) (d : ℕ) (font14 font16 : List ℕ) → dark x d ≡ true → tabulate 19 (λ p. 0) ≡ tabulate 19 (λ p. pinCode (pinAt x d font14 font16 p))

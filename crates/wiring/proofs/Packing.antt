@@ -1,4 +1,4 @@
--- A packed row holds what the rule says of each pin, by one test that is computed over the 24 rows.
+-- A packed row holds the entry of each pin, by one test that is computed over the 24 rows.
 -- Assumes nothing.
 use Rattle.ground.proofs.Names.{ℕ, _<_, Bool, true, _&&_, _≡_, refl, eqb, eqb-true, all, all-at, and-left, and-right}
 use Rattle.wiring.specs.PackedRows.{packedPins, packedRow, sixPins, firstPins}

@@ -1,7 +1,7 @@
 -- The table obeys the rule, by one test that is computed over its 456 entries.
 -- Assumes nothing.
-use Rattle.ground.proofs.Names.{ℕ, _+_, _*_, _<_, Bool, true, _&&_, map, _≡_, refl, eqb, getD, set, eqb-true, lt-ltb, tabulate, all, all-at, tabulate-ext, and-left, and-right}
-use Rattle.wiring.specs.Segments.{none, sixteen, fourteen, listOf, nothing, lightOf}
+use Rattle.ground.proofs.Names.{ℕ, _+_, _-_, _*_, _<_, Bool, true, false, _&&_, [], _∷_, _++_, map, _≡_, refl, eqb, ltb, getD, set, eqb-true, lt-ltb, le-ltb, if, tabulate, all, all-at, tabulate-ext, and-left, and-right}
+use Rattle.wiring.specs.Segments.{none, 1a, 1b, 1c, 1d, 1e, 1f, 1g, 1dp, 2a, 2b, 2c, 2d, 2e, 2f, 2g, 2dp, sixteen, fourteen, pair, listOf, nothing, first, second, lightOf}
 use Rattle.wiring.specs.Wiring.{cathode, notDriven, partner, ruleAt, wireAt}
 use Rattle.wiring.specs.Table.{segmentEntry, wireEntry, displayIndex, table, entryAt, others, WiringTable}
 use Rattle.wiring.specs.declared.Display.{Display}
@@ -30,6 +30,29 @@ entry-at : (k : Display) (d p : ℕ) → d < 8 → p < 19 → entryAt k d p ≡ 
 unfolding ruled
 entry-at k d p h l = let t = row-at k d h in eqb-true _ _ (all-at (ruled k d) 19 (search (and-left, and-right)) p l)
 
+pair-bits : map lightOf pair
+    ≡ first 6 ∷ nothing ∷ first 5 ∷ first 4 ∷ first 3 ∷ first 7 ∷ first 2 ∷ first 1 ∷ first 0 ∷ tabulate 7 (λ r. second (6 - r)) ++ second 7 ∷ []
+unfolding tabulate
+pair-bits = refl
+
+first-names : map lightOf (1dp ∷ 1a ∷ 1b ∷ 1c ∷ 1d ∷ 1e ∷ 1f ∷ 1g ∷ []) ≡ tabulate 8 (λ r. first (7 - r))
+unfolding tabulate
+first-names = refl
+
+second-names : map lightOf (2dp ∷ 2a ∷ 2b ∷ 2c ∷ 2d ∷ 2e ∷ 2f ∷ 2g ∷ []) ≡ tabulate 8 (λ r. second (7 - r))
+unfolding tabulate
+second-names = refl
+
+no-cathode : (k : Display) (d p : ℕ) → 7 < d → wireAt k d p ≡ notDriven
+no-cathode k d p h = rw (le-ltb d 8 h)
+
+no-pin : (k : Display) (d p : ℕ) → 18 < p → wireAt k d p ≡ notDriven
+no-pin k d p h = rw (le-ltb p 19 h) (go (ltb d 8))
+  where
+    go : (b : Bool) → if b notDriven notDriven ≡ notDriven
+    go true = refl
+    go false = refl
+
 fourteen-bits : map lightOf fourteen ≡ set (set (map lightOf sixteen) 1 nothing) 5 nothing
 fourteen-bits = refl
 
@@ -43,6 +66,11 @@ wired =
       entries = entry-at;
       sixteen-bits = refl;
       fourteen-bits = fourteen-bits;
+      pair-bits = pair-bits;
+      first-names = first-names;
+      second-names = second-names;
+      no-cathode = no-cathode;
+      no-pin = no-pin;
     }
 
 -- the row of a cathode

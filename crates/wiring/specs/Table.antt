@@ -8,8 +8,8 @@ use lib.Dec.{eqb}
 use lib.ListN.{getD, set}
 use Rattle.ground.specs.Choice.{if}
 use Rattle.ground.specs.Lists.{tabulate}
-use Rattle.wiring.specs.Segments.{Segment, none, sixteen, fourteen, listOf, Light, nothing, glyph, point, first, second, lightOf}
-use Rattle.wiring.specs.Wiring.{Wire, cathode, notDriven, carries, partner, ruleAt}
+use Rattle.wiring.specs.Segments.{Segment, none, 1a, 1b, 1c, 1d, 1e, 1f, 1g, 1dp, 2a, 2b, 2c, 2d, 2e, 2f, 2g, 2dp, sixteen, fourteen, pair, listOf, Light, nothing, glyph, point, first, second, lightOf}
+use Rattle.wiring.specs.Wiring.{Wire, cathode, notDriven, carries, partner, ruleAt, wireAt}
 use Rattle.wiring.specs.declared.Display.{Display}
 use Rattle.wiring.specs.declared.Display.the-variants.{Sixteen, Fourteen, SevenPair}
 
@@ -94,7 +94,8 @@ abbrev pub others : ℕ → List ℕ
 others d = othersOf d (0 ∷ 1 ∷ 2 ∷ 3 ∷ 4 ∷ 5 ∷ 6 ∷ 7 ∷ 8 ∷ 9 ∷ 10 ∷ 11 ∷ 12 ∷ 13 ∷ 14 ∷ 15 ∷ 16 ∷ 17 ∷ 18 ∷ [])
 
 -- the table obeys the rule: pin d is the cathode, its partner isn't driven, the other 17 in rising order carry the display's list; `entries`
--- says the same entry by entry, by `ruleAt`. The lists: bit 15 down to 0 of a glyph word are a1 to m, and a 14-segment digit skips bits 14 and 10
+-- says the same entry by entry, by `ruleAt`. The lists by bits: bit 15 down to 0 of a glyph word are a1 to m, and a 14-segment digit skips bits 14
+-- and 10; of a pair the order of Table 4, and by name that of Table 10, D7 to D0 being dp a b c d e f g of either digit
 pub record WiringTable : Type 0 where
   pub cathodes : (k : Display) (d : ℕ) → d < 8 → entryAt k d d ≡ wireEntry cathode
   pub partners : (k : Display) (d : ℕ) → d < 8 → entryAt k d (partner d) ≡ wireEntry notDriven
@@ -102,3 +103,10 @@ pub record WiringTable : Type 0 where
   pub entries : (k : Display) (d p : ℕ) → d < 8 → p < 19 → entryAt k d p ≡ wireEntry (ruleAt k d p)
   pub sixteen-bits : map lightOf sixteen ≡ tabulate 16 (λ r. glyph (15 - r)) ++ point ∷ []
   pub fourteen-bits : map lightOf fourteen ≡ set (set (map lightOf sixteen) 1 nothing) 5 nothing
+  pub pair-bits : map lightOf pair
+      ≡ first 6 ∷ nothing ∷ first 5 ∷ first 4 ∷ first 3 ∷ first 7 ∷ first 2 ∷ first 1 ∷ first 0 ∷ tabulate 7 (λ r. second (6 - r)) ++ second 7 ∷ []
+  pub first-names : map lightOf (1dp ∷ 1a ∷ 1b ∷ 1c ∷ 1d ∷ 1e ∷ 1f ∷ 1g ∷ []) ≡ tabulate 8 (λ r. first (7 - r))
+  pub second-names : map lightOf (2dp ∷ 2a ∷ 2b ∷ 2c ∷ 2d ∷ 2e ∷ 2f ∷ 2g ∷ []) ≡ tabulate 8 (λ r. second (7 - r))
+  -- a cathode above 7 and a pin above 18 drive nothing
+  pub no-cathode : (k : Display) (d p : ℕ) → 7 < d → wireAt k d p ≡ notDriven
+  pub no-pin : (k : Display) (d p : ℕ) → 18 < p → wireAt k d p ≡ notDriven

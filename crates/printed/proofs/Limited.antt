@@ -26,14 +26,16 @@ no-room s out h l = (
 room : (s out : List ℕ) → length s ≤ 65536 → 16 + 4 * length s ≤ length out → ranOf s out ≡ record { number = 0; length = length (printed s) }
 room s out h l = rw (le-ltb 65536 (length s) h, le-ltb (length out) (16 + 4 * length s) l)
 
+-- room for `R 9` suffices where the script is too long
+long-room : (s : List ℕ) → 65536 < length s → roomFor (length s) ≡ 4
+long-room s h = rw (lt-ltb 65536 (length s) h)
+
 no-room-too-long : (s out : List ℕ) → 65536 < length s → length out < 4 → (ranOf s out ≡ record { number = 5; length = 0 }) × (outAfter s out ≡ out)
-no-room-too-long s out h l = (
-  rw (lt-ltb 65536 (length s) h, lt-ltb (length out) 4 l),
-  rw (lt-ltb 65536 (length s) h, lt-ltb (length out) 4 l),
-)
+no-room-too-long s out h l =
+    let t = lt-ltb (length out) (roomFor (length s)) (rw (long-room s h) l) in (rw t, rw t)
 
 room-too-long : (s out : List ℕ) → 65536 < length s → 4 ≤ length out → ranOf s out ≡ record { number = 0; length = 4 }
-room-too-long s out h l = rw (too-long s h, lt-ltb 65536 (length s) h, le-ltb (length out) 4 l)
+room-too-long s out h l = rw (too-long s h, le-ltb (length out) (roomFor (length s)) (rw (long-room s h) l))
 
 module _ (s out : List ℕ) where
   -- what is printed, and what stood in the room after it

@@ -1,6 +1,7 @@
 -- What a cathode shows goes by its own bits and its own digits' bytes.
 -- Assumes nothing.
-use Rattle.ground.proofs.Names.{ℕ, zero, suc, _+_, _^_, _<_, Bool, true, false, _&&_, _||_, Bool·beq, List, [], _∷_, map, _≡_, _≢_, refl, _∙_, ap, eqb, ltb, getD, if, bit, all, all-at, and-left, and-right, same}
+use Rattle.ground.proofs.Names.{ℕ, zero, suc, _+_, _^_, _<_, Bool, true, false, _&&_, _||_, Bool·beq, List, [], _∷_, map, _≡_, _≢_, refl, _∙_, ap, eqb, ltb, getD, replicate, if, bit, tabulate, getD-tabulate, all, all-at, and-left, and-right, same}
+use Rattle.refusals.specs.Refusals.{segmentsRefusal}
 use Rattle.words.specs.declared.Register.the-variants.{Digit}
 use Rattle.registers.specs.Registers.{dataOf}
 use Rattle.device.specs.Steps.{shownPlane}
@@ -12,7 +13,7 @@ use Rattle.wiring.specs.declared.Display.the-variants.{Sixteen, Fourteen, Seven
 use Rattle.glyphs.specs.Glyphs.{litBy}
 use Rattle.brightness.specs.Dark.{testOn}
 use Rattle.display.specs.Cathode.{displayBy, displayOf, shownByte, hexMode, fontOf, segmentOn}
-use Rattle.display.specs.Pins.{pinCode, wirePin, pinAt}
+use Rattle.display.specs.Pins.{pinCode, wirePin, pinAt, segmentsOf}
 use Rattle.display.specs.declared.Pin.the-variants.{NotDriven, Cathode, Lit, Unlit, NoSegment}
 use Rattle.display.specs.OwnCathode.{Alike, OwnCathode}
 
@@ -136,6 +137,16 @@ module _ (x y : Device) (d : ℕ) (font14 font16 : List ℕ) (a : Alike x y d) w
 own-byte : (x : Device) (i : ℕ) → shownByte x i ≡ dataOf (x .registers) (Digit (shownPlane x) i)
 own-byte x i = refl
 
+module _ (x : Device) (d : ℕ) (font14 font16 : List ℕ) where
+  answered : (p : ℕ) → segmentsRefusal d font14 font16 ≡ 0 → p < 19 → getD (segmentsOf x d font14 font16 .pins) p 0 ≡ pinCode (pinAt x d font14 font16 p)
+  answered p e h =
+      getD-tabulate 19 (λ q. pinCode (if (eqb (segmentsRefusal d font14 font16) 0) (pinAt x d font14 font16 q) NotDriven)) 0 p h
+      ∙ ap (λ n. pinCode (if (eqb n 0) (pinAt x d font14 font16 p) NotDriven)) e
+
+  refused : segmentsRefusal d font14 font16 ≡ 6 → segmentsOf x d font14 font16 ≡ record { number = 6; pins = replicate 19 0 }
+  unfolding tabulate
+  refused e = rw e
+
 numbers : map pinCode (NotDriven ∷ Cathode ∷ Lit ∷ Unlit ∷ NoSegment ∷ []) ≡ 0 ∷ 1 ∷ 2 ∷ 3 ∷ 4 ∷ []
 numbers = refl
 
@@ -149,5 +160,7 @@ own-cathode =
       own-byte = own-byte;
       pair-pins = λ x y d p font14 font16 a e. same-pin x y d font14 font16 a p (either-digit x y d font14 font16 a (wireAt (displayOf x d) d p) e);
       other-pins = λ x y d p font14 font16 a. other-pins x y d font14 font16 a p;
+      answered = λ x d p font14 font16. answered x d font14 font16 p;
+      refused = refused;
       numbers = numbers;
     }

@@ -6,7 +6,9 @@ use mathlib.Core.List.{List, [], _∷_, map}
 use mathlib.Core.Logic.{_≢_}
 use mathlib.Core.Path.{_≡_}
 use lib.Dec.{eqb}
+use lib.ListN.{getD, replicate}
 use Rattle.ground.specs.Choice.{if, bit}
+use Rattle.refusals.specs.Refusals.{segmentsRefusal}
 use Rattle.words.specs.declared.Register.the-variants.{Digit}
 use Rattle.registers.specs.Registers.{dataOf}
 use Rattle.device.specs.Steps.{shownPlane}
@@ -14,7 +16,7 @@ use Rattle.device.specs.declared.Device.{Device}
 use Rattle.wiring.specs.declared.Display.the-variants.{Sixteen, Fourteen, SevenPair}
 use Rattle.brightness.specs.Dark.{testOn, dark}
 use Rattle.display.specs.Cathode.{displayBy, displayOf, shownByte, hexMode}
-use Rattle.display.specs.Pins.{pinCode, pinAt}
+use Rattle.display.specs.Pins.{pinCode, pinAt, segmentsOf}
 use Rattle.display.specs.declared.Pin.the-variants.{NotDriven, Cathode, Lit, Unlit, NoSegment}
 
 -- cathode d of two drivers alike: test, darkness, its bits and digit d's byte
@@ -41,5 +43,10 @@ pub record OwnCathode : Type 0 where
       → pinAt x d font14 font16 p ≡ pinAt y d font14 font16 p
   pub other-pins : (x y : Device) (d p : ℕ) (font14 font16 : List ℕ) → Alike x y d → displayOf x d ≢ SevenPair
       → pinAt x d font14 font16 p ≡ pinAt y d font14 font16 p
+  -- an answer has pin Op at place p; a refused one no pin driven
+  pub answered : (x : Device) (d p : ℕ) (font14 font16 : List ℕ) → segmentsRefusal d font14 font16 ≡ 0 → p < 19
+      → getD (segmentsOf x d font14 font16 .pins) p 0 ≡ pinCode (pinAt x d font14 font16 p)
+  pub refused : (x : Device) (d : ℕ) (font14 font16 : List ℕ) → segmentsRefusal d font14 font16 ≡ 6
+      → segmentsOf x d font14 font16 ≡ record { number = 6; pins = replicate 19 0 }
   -- the numbers in an answer
   pub numbers : map pinCode (NotDriven ∷ Cathode ∷ Lit ∷ Unlit ∷ NoSegment ∷ []) ≡ 0 ∷ 1 ∷ 2 ∷ 3 ∷ 4 ∷ []

@@ -1,10 +1,10 @@
 -- Dark cathodes and brightness beside the tables of 000.
 -- Assumes nothing.
-use Rattle.ground.proofs.Names.{ℕ, _<_, _≤_, arith, true, false, or-true, [], _∷_, map, _≡_, refl, lt-ltb, le-ltb, odd}
+use Rattle.ground.proofs.Names.{ℕ, _<_, _≤_, arith, true, false, or-true, [], _∷_, map, _≡_, refl, ap, lt-ltb, le-ltb, odd}
 use Rattle.device.specs.declared.Device.{Device}
 use Rattle.brightness.specs.Dark.{testOn, dark}
-use Rattle.brightness.specs.Brightness.{ownNibble, sixteenths, cathodeOf, brightnessOf, rulerOf, brightnessAnswer}
-use Rattle.brightness.specs.declared.Ruler.the-variants.{Global, Own, Test}
+use Rattle.brightness.specs.Brightness.{ownNibble, sixteenths, ruledTo, cathodeOf, brightnessOf, rulerOf, rulerCode, brightnessAnswer}
+use Rattle.brightness.specs.declared.Ruler.the-variants.{Nothing, Global, Own, Test}
 use Rattle.brightness.specs.Tables.{sixteenNumbers, table26, table27, BrightnessTables}
 
 to-the-limit : (x : Device) (d : ℕ) → testOn x ≡ false → odd (x .registers .config .s) ≡ true → d ≤ x .registers .controls .limit → dark x d ≡ false
@@ -37,6 +37,21 @@ own-rules x t i = rw (t, i)
 global-rules : (x : Device) → testOn x ≡ false → odd (x .registers .config .i) ≡ false → rulerOf x ≡ Global
 global-rules x t i = rw (t, i)
 
+ruler-numbers : map rulerCode (Nothing ∷ Global ∷ Own ∷ Test ∷ []) ≡ 0 ∷ 1 ∷ 2 ∷ 3 ∷ []
+ruler-numbers = refl
+
+test-bit : (x : Device) → x .registers .controls .test ≡ 1 → testOn x ≡ true
+test-bit x e = ap odd e
+
+no-test-bit : (x : Device) → x .registers .controls .test ≡ 0 → testOn x ≡ false
+no-test-bit x e = ap odd e
+
+own-nibble : (x : Device) (i : ℕ) → testOn x ≡ false → odd (x .registers .config .i) ≡ true → ruledTo x i ≡ sixteenths (ownNibble (x .registers .intensities) i)
+own-nibble x i t e = rw (t, e)
+
+global-nibble : (x : Device) (i : ℕ) → testOn x ≡ false → odd (x .registers .config .i) ≡ false → ruledTo x i ≡ sixteenths (x .registers .controls .global)
+global-nibble x i t e = rw (t, e)
+
 refused : (x : Device) (i : ℕ) → 15 < i → brightnessAnswer x i ≡ record { number = 6; sixteenths = 0; ruler = 0 }
 refused x i h = rw (le-ltb i 16 (omega arith))
 
@@ -56,6 +71,11 @@ tabled =
       test-rules = test-rules;
       own-rules = own-rules;
       global-rules = global-rules;
+      ruler-numbers = ruler-numbers;
+      test-bit = test-bit;
+      no-test-bit = no-test-bit;
+      own-nibble = own-nibble;
+      global-nibble = global-nibble;
       by-nibbles = λ x y i t c g n. simp (t, c, g, n);
       refused = refused;
       answered = λ x i h. rw (lt-ltb i 16 (omega arith));

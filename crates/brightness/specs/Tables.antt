@@ -8,7 +8,7 @@ use Rattle.ground.specs.Choice.{odd}
 use Rattle.device.specs.declared.Device.{Device}
 use Rattle.brightness.specs.Dark.{testOn, dark}
 use Rattle.brightness.specs.Brightness.{ownNibble, sixteenths, ruledTo, cathodeOf, brightnessOf, rulerOf, rulerCode, brightnessAnswer}
-use Rattle.brightness.specs.declared.Ruler.the-variants.{Global, Own, Test}
+use Rattle.brightness.specs.declared.Ruler.the-variants.{Nothing, Global, Own, Test}
 
 -- the nibbles 0 to F, and the digits 0 to 7, 0a to 7a
 abbrev pub sixteenNumbers : List ℕ
@@ -44,6 +44,13 @@ pub record BrightnessTables : Type 0 where
   pub test-rules : (x : Device) → testOn x ≡ true → rulerOf x ≡ Test
   pub own-rules : (x : Device) → testOn x ≡ false → odd (x .registers .config .i) ≡ true → rulerOf x ≡ Own
   pub global-rules : (x : Device) → testOn x ≡ false → odd (x .registers .config .i) ≡ false → rulerOf x ≡ Global
+  -- the numbers of what rules
+  pub ruler-numbers : map rulerCode (Nothing ∷ Global ∷ Own ∷ Test ∷ []) ≡ 0 ∷ 1 ∷ 2 ∷ 3 ∷ []
+  -- Table 36: display test is on where its bit is 1; without it a digit has the sixteenths of its own nibble where I=1, else of the global one
+  pub test-bit : (x : Device) → x .registers .controls .test ≡ 1 → testOn x ≡ true
+  pub no-test-bit : (x : Device) → x .registers .controls .test ≡ 0 → testOn x ≡ false
+  pub own-nibble : (x : Device) (i : ℕ) → testOn x ≡ false → odd (x .registers .config .i) ≡ true → ruledTo x i ≡ sixteenths (ownNibble (x .registers .intensities) i)
+  pub global-nibble : (x : Device) (i : ℕ) → testOn x ≡ false → odd (x .registers .config .i) ≡ false → ruledTo x i ≡ sixteenths (x .registers .controls .global)
   -- what it gives, by display test, I, the global nibble and the digit's own alone
   pub by-nibbles : (x y : Device) (i : ℕ)
       → x .registers .controls .test ≡ y .registers .controls .test

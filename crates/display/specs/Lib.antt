@@ -1,4 +1,5 @@
 pub mod Cathode
 pub mod Pins
 pub mod ByTable
+pub mod OwnCathode
 pub mod Examples

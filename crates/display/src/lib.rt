@@ -4,6 +4,7 @@ ghost use Rattle.blink.specs.Part.{planePart};
 ghost use Rattle.device.specs.Steps.{shownPlane};
 ghost use Rattle.display.specs.Pins.{pinCode};
 ghost use Rattle.display.specs.ByTable.{PinByPin};
+ghost use Rattle.display.specs.OwnCathode.{OwnCathode};
 ghost use Rattle.display.specs.Examples.{Examples};
 use device::Device;
 
@@ -49,6 +50,11 @@ pub fn plane<'a>(device: Device, p0: &'a [u8], p1: &'a [u8], first: usize, last:
 // A theorem: the pins by the wiring table are those pin by pin.
 pub fn pin_by_pin()
     ensures { λ _. ⌜ PinByPin ⌝ }
+{}
+
+// A theorem: each bit of digit type, fitted byte and decode mode is its own cathode's, and what a cathode shows goes by its own alone.
+pub fn own_cathode()
+    ensures { λ _. ⌜ OwnCathode ⌝ }
 {}
 
 // A theorem: the bench examples of the display.

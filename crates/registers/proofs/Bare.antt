@@ -1,6 +1,6 @@
 -- What R and T do, the registers that take nothing, or read 0, and what a read leaves.
 -- Assumes nothing.
-use Rattle.ground.proofs.Names.{ℕ, _≡_, _≢_, refl}
+use Rattle.ground.proofs.Names.{ℕ, true, false, _≡_, _≢_, refl, ap, if, bit}
 use Rattle.words.specs.declared.KeyGroup.{KeyGroup}
 use Rattle.words.specs.declared.Register.{Register}
 use Rattle.words.specs.declared.Register.the-variants.{NoOp, Control, Configuration, KeyMask, KeyDebounced, KeyPressed, Intensity, Digit, BothPlanes, Unlisted}
@@ -15,11 +15,17 @@ no-op-written x v = refl
 no-op-read : (x : Registers) → dataOf x NoOp ≡ 0
 no-op-read x = refl
 
-r-alone : (x : Registers) → (written x Configuration 0x20 .planes ≡ cleared) × (written x Configuration 0x20 .blink ≡ x .blink)
-r-alone x = (refl, refl)
+r-set : (x : Registers) (v : ℕ) → bit 5 v ≡ true → written x Configuration v .planes ≡ cleared
+r-set x v e = ap (λ b. if b cleared (x .planes)) e
 
-t-alone : (x : Registers) → (written x Configuration 0x10 .planes ≡ x .planes) × (written x Configuration 0x10 .blink ≡ 0)
-t-alone x = (refl, refl)
+r-clear : (x : Registers) (v : ℕ) → bit 5 v ≡ false → written x Configuration v .planes ≡ x .planes
+r-clear x v e = ap (λ b. if b cleared (x .planes)) e
+
+t-set : (x : Registers) (v : ℕ) → bit 4 v ≡ true → written x Configuration v .blink ≡ 0
+t-set x v e = ap (λ b. if b 0 (x .blink)) e
+
+t-clear : (x : Registers) (v : ℕ) → bit 4 v ≡ false → written x Configuration v .blink ≡ x .blink
+t-clear x v e = ap (λ b. if b 0 (x .blink)) e
 
 both-read : (x : Registers) (i : ℕ) → dataOf x (BothPlanes i) ≡ 0
 both-read x i = refl
@@ -44,9 +50,10 @@ written-and-read =
     record {
       no-op-written = no-op-written;
       no-op-read = no-op-read;
-      r-alone = r-alone;
-      t-alone = t-alone;
-      neither = λ x. (refl, refl);
+      r-set = r-set;
+      r-clear = r-clear;
+      t-set = t-set;
+      t-clear = t-clear;
       mask-read = λ x g. refl;
       report-written = report-written;
       left = left;

@@ -1,8 +1,10 @@
 -- Believed: document 01, "Registers": what R and T do, the registers that take nothing, or read 0, and what a read leaves.
 -- Assumes nothing.
 use Prim.Native.Nat.{ℕ}
+use mathlib.Core.Bool.{true, false}
 use mathlib.Core.Logic.{_≢_}
 use mathlib.Core.Path.{_≡_}
+use Rattle.ground.specs.Choice.{bit}
 use Rattle.words.specs.declared.KeyGroup.{KeyGroup}
 use Rattle.words.specs.declared.Register.{Register}
 use Rattle.words.specs.declared.Register.the-variants.{NoOp, Configuration, KeyMask, KeyDebounced, KeyPressed, BothPlanes, Unlisted}
@@ -17,11 +19,11 @@ pub record WrittenAndRead : Type 0 where
   -- 0x00 no-op: writes do nothing, it reads 0
   pub no-op-written : (x : Registers) (v : ℕ) → written x NoOp v ≡ x
   pub no-op-read : (x : Registers) → dataOf x NoOp ≡ 0
-  -- bits P I R T E B X S: R=1 alone clears the planes and leaves the count, T=1 alone sets the count to 0 and leaves the planes
-  pub r-alone : (x : Registers) → (written x Configuration 0x20 .planes ≡ cleared) × (written x Configuration 0x20 .blink ≡ x .blink)
-  pub t-alone : (x : Registers) → (written x Configuration 0x10 .planes ≡ x .planes) × (written x Configuration 0x10 .blink ≡ 0)
-  -- the other six leave both
-  pub neither : (x : Registers) → (written x Configuration 0xCF .planes ≡ x .planes) × (written x Configuration 0xCF .blink ≡ x .blink)
+  -- bits P I R T E B X S: R=1 clears the planes, T=1 sets the count to 0, and no other bit does either
+  pub r-set : (x : Registers) (v : ℕ) → bit 5 v ≡ true → written x Configuration v .planes ≡ cleared
+  pub r-clear : (x : Registers) (v : ℕ) → bit 5 v ≡ false → written x Configuration v .planes ≡ x .planes
+  pub t-set : (x : Registers) (v : ℕ) → bit 4 v ≡ true → written x Configuration v .blink ≡ 0
+  pub t-clear : (x : Registers) (v : ℕ) → bit 4 v ≡ false → written x Configuration v .blink ≡ x .blink
   -- masks can't be read; a report of keys can't be written
   pub mask-read : (x : Registers) (g : KeyGroup) → dataOf x (KeyMask g) ≡ 0
   pub report-written : (x : Registers) (g : KeyGroup) (v : ℕ) → (written x (KeyDebounced g) v ≡ x) × (written x (KeyPressed g) v ≡ x)

@@ -1,8 +1,8 @@
 -- The table obeys the rule, by one test that is computed over its 456 entries.
 -- Assumes nothing.
-use Rattle.ground.proofs.Names.{ℕ, _+_, _-_, _*_, _<_, Bool, true, false, _&&_, [], _∷_, _++_, map, _≡_, refl, eqb, ltb, getD, set, eqb-true, lt-ltb, le-ltb, if, tabulate, all, all-at, tabulate-ext, and-left, and-right}
+use Rattle.ground.proofs.Names.{ℕ, _+_, _-_, _*_, _<_, Bool, true, false, _&&_, [], _∷_, _++_, map, _≡_, refl, eqb, ltb, getD, replicate, set, eqb-true, lt-ltb, le-ltb, if, tabulate, all, all-at, tabulate-ext, and-left, and-right}
 use Rattle.wiring.specs.Segments.{none, 1a, 1b, 1c, 1d, 1e, 1f, 1g, 1dp, 2a, 2b, 2c, 2d, 2e, 2f, 2g, 2dp, sixteen, fourteen, pair, listOf, nothing, first, second, lightOf}
-use Rattle.wiring.specs.Wiring.{cathode, notDriven, partner, ruleAt, wireAt}
+use Rattle.wiring.specs.Wiring.{digitOf, cathode, notDriven, partner, ruleAt, wireAt}
 use Rattle.wiring.specs.Table.{segmentEntry, wireEntry, displayIndex, table, entryAt, others, WiringTable}
 use Rattle.wiring.specs.declared.Display.{Display}
 use Rattle.wiring.specs.declared.Display.the-variants.{Sixteen, Fourteen, SevenPair}
@@ -43,6 +43,12 @@ second-names : map lightOf (2dp ∷ 2a ∷ 2b ∷ 2c ∷ 2d ∷ 2e ∷ 2f ∷ 2g
 unfolding tabulate
 second-names = refl
 
+own-digits : (d : ℕ) → map (digitOf d) sixteen ++ map (digitOf d) fourteen ≡ replicate 34 d
+own-digits d = refl
+
+pair-digits : (d : ℕ) → map (digitOf d) pair ≡ replicate 9 d ++ replicate 8 (d + 8)
+pair-digits d = refl
+
 no-cathode : (k : Display) (d p : ℕ) → 7 < d → wireAt k d p ≡ notDriven
 no-cathode k d p h = rw (le-ltb d 8 h)
 
@@ -69,6 +75,8 @@ wired =
       pair-bits = pair-bits;
       first-names = first-names;
       second-names = second-names;
+      own-digits = own-digits;
+      pair-digits = pair-digits;
       no-cathode = no-cathode;
       no-pin = no-pin;
     }

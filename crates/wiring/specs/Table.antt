@@ -5,11 +5,11 @@ use mathlib.Core.Bool.{_||_}
 use mathlib.Core.List.{List, [], _∷_, _++_, map}
 use mathlib.Core.Path.{_≡_}
 use lib.Dec.{eqb}
-use lib.ListN.{getD, set}
+use lib.ListN.{getD, replicate, set}
 use Rattle.ground.specs.Choice.{if}
 use Rattle.ground.specs.Lists.{tabulate}
 use Rattle.wiring.specs.Segments.{Segment, none, 1a, 1b, 1c, 1d, 1e, 1f, 1g, 1dp, 2a, 2b, 2c, 2d, 2e, 2f, 2g, 2dp, sixteen, fourteen, pair, listOf, Light, nothing, glyph, point, first, second, lightOf}
-use Rattle.wiring.specs.Wiring.{Wire, cathode, notDriven, carries, partner, ruleAt, wireAt}
+use Rattle.wiring.specs.Wiring.{digitOf, Wire, cathode, notDriven, carries, partner, ruleAt, wireAt}
 use Rattle.wiring.specs.declared.Display.{Display}
 use Rattle.wiring.specs.declared.Display.the-variants.{Sixteen, Fourteen, SevenPair}
 
@@ -107,6 +107,9 @@ pub record WiringTable : Type 0 where
       ≡ first 6 ∷ nothing ∷ first 5 ∷ first 4 ∷ first 3 ∷ first 7 ∷ first 2 ∷ first 1 ∷ first 0 ∷ tabulate 7 (λ r. second (6 - r)) ++ second 7 ∷ []
   pub first-names : map lightOf (1dp ∷ 1a ∷ 1b ∷ 1c ∷ 1d ∷ 1e ∷ 1f ∷ 1g ∷ []) ≡ tabulate 8 (λ r. first (7 - r))
   pub second-names : map lightOf (2dp ∷ 2a ∷ 2b ∷ 2c ∷ 2d ∷ 2e ∷ 2f ∷ 2g ∷ []) ≡ tabulate 8 (λ r. second (7 - r))
+  -- the digit that each belongs to: digit d, or of a pair's second eight digit da
+  pub own-digits : (d : ℕ) → map (digitOf d) sixteen ++ map (digitOf d) fourteen ≡ replicate 34 d
+  pub pair-digits : (d : ℕ) → map (digitOf d) pair ≡ replicate 9 d ++ replicate 8 (d + 8)
   -- a cathode above 7 and a pin above 18 drive nothing
   pub no-cathode : (k : Display) (d p : ℕ) → 7 < d → wireAt k d p ≡ notDriven
   pub no-pin : (k : Display) (d p : ℕ) → 18 < p → wireAt k d p ≡ notDriven

@@ -5,10 +5,11 @@ use Rattle.words.specs.declared.Plane.{Plane}
 use Rattle.words.specs.declared.Plane.the-variants.{P0, P1}
 use Rattle.words.specs.declared.KeyGroup.{KeyGroup}
 use Rattle.words.specs.declared.Register.the-variants.{Control, Configuration, KeyMask, KeyDebounced, KeyPressed, Intensity, Digit, BothPlanes}
+use Rattle.words.specs.declared.ControlRegister.{ControlRegister}
 use Rattle.words.specs.declared.ControlRegister.the-variants.{GpioData}
 use Rattle.keys.specs.Keys.{groupOf, groupsOf, closedOf, newly, scannedKeys}
 use Rattle.keys.specs.KeyByKey.{placeOf, keysOf}
-use Rattle.keys.proofs.Keyed.{each}
+use Rattle.keys.proofs.Keyed.{each, key-by-key}
 use Rattle.blink.specs.Blink.{phaseAt}
 use Rattle.digits.specs.Digits.{planeOf}
 use Rattle.digits.proofs.Each.{digit-by-digit}
@@ -40,6 +41,12 @@ digit x p i v l h = digit-by-digit .written (x .planes) p i v l h
 by-mask : (x : Registers) (g : KeyGroup) (v : ℕ)
     → Alike x (written x (KeyMask g) v) (Control GpioData ∷ Configuration ∷ controlsRead ++ reports ++ intensitiesRead ++ digitsRead)
 by-mask x g v = each (λ h. Alike x (written x (KeyMask h) v) (Control GpioData ∷ Configuration ∷ controlsRead ++ reports ++ intensitiesRead ++ digitsRead)) refl refl refl refl g
+
+mask : (x : Registers) (g : KeyGroup) (v : ℕ) → groupOf (written x (KeyMask g) v .keys) g .mask ≡ v
+mask x g v = key-by-key .masked (x .keys) g v
+
+pins-kept : (x : Registers) (c : ControlRegister) (v : ℕ) → written x (Control c) v .pins ≡ x .pins
+pins-kept x c v = refl
 
 other-plane : (x : Registers) (i j v : ℕ)
     → (dataOf (written x (Digit P0 i) v) (Digit P1 j) ≡ dataOf x (Digit P1 j)) × (dataOf (written x (Digit P1 i) v) (Digit P0 j) ≡ dataOf x (Digit P0 j))
@@ -78,6 +85,8 @@ read-back =
       by-intensity = λ x j v. refl;
       by-digit = λ x p i v. refl;
       by-both = λ x i v. refl;
+      mask = mask;
+      pins-kept = pins-kept;
       by-pins = λ x n. refl;
       by-keys = λ x k. refl;
       by-clocks = λ x n. refl;

@@ -77,6 +77,9 @@ pub record ReadBack : Type 0 where
   pub by-intensity : (x : Registers) (j v : ℕ) → Alike x (written x (Intensity j) v) (Control GpioData ∷ Configuration ∷ controlsRead ++ reports ++ digitsRead)
   pub by-digit : (x : Registers) (p : Plane) (i v : ℕ) → Alike x (written x (Digit p i) v) (Control GpioData ∷ Configuration ∷ controlsRead ++ reports ++ intensitiesRead)
   pub by-both : (x : Registers) (i v : ℕ) → Alike x (written x (BothPlanes i) v) (Control GpioData ∷ Configuration ∷ controlsRead ++ reports ++ intensitiesRead)
+  -- a mask can't be read, but is stored; a control register leaves the pins
+  pub mask : (x : Registers) (g : KeyGroup) (v : ℕ) → groupOf (written x (KeyMask g) v .keys) g .mask ≡ v
+  pub pins-kept : (x : Registers) (c : ControlRegister) (v : ℕ) → written x (Control c) v .pins ≡ x .pins
   -- pin levels change GPIO data alone, keys also the reports, the blink count P
   pub by-pins : (x : Registers) (n : ℕ) → Alike x (withPins x n) (Configuration ∷ controlsRead ++ reports ++ intensitiesRead ++ digitsRead)
   pub by-keys : (x : Registers) (k : Keys) → Alike x (withKeys x k) (Configuration ∷ controlsRead ++ intensitiesRead ++ digitsRead)

@@ -19,7 +19,7 @@ Metadata-Version: 2.1
 Name: ratchetelm
 Version: {VERSION}
 Summary: A bench double of a chain of MAX6954 LED drivers and MAX6957 port drivers, and of a bus of MAX6955, proved in Rattle
-Requires-Python: >=3.8
+Requires-Python: >=3.9
 """
 
 

@@ -1,6 +1,6 @@
 -- The bench examples, by one computation over their table, and those of numbers, answers, answer marks, the planner, the look back and both families.
 -- Assumes nothing.
-use Rattle.ground.proofs.Names.{[], _∷_, true≢false, sym, refl, replicate, tabulate, Agree}
+use Rattle.ground.proofs.Names.{true, [], _∷_, _≡_, true≢false, sym, refl, replicate, tabulate, Agree}
 use Rattle.wire.specs.Bits.{bits, value, unpack, byteAt, pack, wordAt}
 use Rattle.wire.specs.Wire.{string, words, wire, answer, shifted}
 use Rattle.device.specs.Taken.{taken}
@@ -18,9 +18,10 @@ use Rattle.calls.specs.Outcome.{number, after, reply}
 use Rattle.calls.specs.CallLists.{afterAll, numbers, replies}
 use Rattle.calls.specs.Isolation.{AllFull}
 use Rattle.calls.specs.NextAccess.{NoAccess}
+use Rattle.calls.specs.AnswerMark.{noneDecides}
 use Rattle.calls.specs.BenchTable.{accessOf, table}
 use Rattle.calls.specs.OutputExamples.{shownRows, pinRows, brightnessRows, interruptRows, stepRows, OutputExamples}
-use Rattle.calls.specs.Examples.{others, numberRows, answerRows, markRows, planRows, lookBackRows, familyRows, Examples}
+use Rattle.calls.specs.Examples.{mixed, others, numberRows, answerRows, markRows, planRows, lookBackRows, familyRows, Examples}
 
 bench : Agree table
 unfolding portTaken portPinned settled levels directions upperBits replaced statesOf tabulate bits value unpack byteAt pack wordAt string words wire answer shifted taken takes familiesBelow soundRecord pinned allSound number after reply afterAll numbers replies
@@ -81,5 +82,9 @@ bench-no-access : NoAccess 2 (0 ∷ 1 ∷ []) others
 unfolding NoAccess familiesBelow
 bench-no-access = (refl, tt)
 
+bench-none-decides : noneDecides others mixed ≡ true
+unfolding noneDecides portPinned settled levels directions upperBits familiesBelow soundRecord pinned allSound number after
+bench-none-decides = refl
+
 pub examples : Examples
-examples = record { full = bench-full; no-access = bench-no-access; bench = bench; numbers = bench-numbers; answers = bench-answers; outputs = outputs; marked = bench-marks; planned = bench-plans; looked-back = bench-looks; families = bench-families }
+examples = record { full = bench-full; no-access = bench-no-access; none-decides = bench-none-decides; bench = bench; numbers = bench-numbers; answers = bench-answers; outputs = outputs; marked = bench-marks; planned = bench-plans; looked-back = bench-looks; families = bench-families }

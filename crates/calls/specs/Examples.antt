@@ -2,7 +2,9 @@
 -- 1, 2, 6, 8 and 9: what the definitions give beside what the documents say.
 -- Assumes nothing.
 use Prim.Native.Nat.{ℕ, _*_}
+use mathlib.Core.Bool.{true}
 use mathlib.Core.List.{List, [], _∷_, _++_, map}
+use mathlib.Core.Path.{_≡_}
 use lib.ListN.{replicate}
 use Rattle.ground.specs.Lists.{tabulate, Agree}
 use Rattle.port_registers.specs.PortRecord.{withPins as withLevels}
@@ -16,7 +18,7 @@ use Rattle.calls.specs.Outcome.{number, reply}
 use Rattle.calls.specs.CallLists.{afterAll, replies}
 use Rattle.calls.specs.Isolation.{AllFull}
 use Rattle.calls.specs.NextAccess.{NoAccess}
-use Rattle.calls.specs.AnswerMark.{marks}
+use Rattle.calls.specs.AnswerMark.{marks, noneDecides}
 use Rattle.calls.specs.BenchTable.{accessOf, joined, stateOf, table}
 use Rattle.calls.specs.OutputExamples.{lent, other, OutputExamples}
 
@@ -249,9 +251,10 @@ others = access 16 [] [] ∷ give 1 (levels 3) ∷ ask 3 shown ∷ askChain (pla
 
 -- what the definitions give is what the documents say
 pub record Examples : Type 0 where
-  -- lists that isolation and the next access speak of
+  -- lists that isolation, the next access and the answer mark speak of
   pub full : AllFull 2 (0 ∷ 1 ∷ []) (accessOf 32 (replicate 4 0x55) ∷ others)
   pub no-access : NoAccess 2 (0 ∷ 1 ∷ []) others
+  pub none-decides : noneDecides others mixed ≡ true
   pub bench : Agree table
   pub numbers : Agree numberRows
   pub answers : Agree answerRows

@@ -1,4 +1,5 @@
 // What a driver of a chain answers to a question, by value: refused with a number, or from its record.
+#![tactic(auto)]
 ghost use Rattle.std.specs.Prelude.{◌≡◌, [], replicate};
 ghost use Rattle.ground.specs.Lists.{tabulate};
 ghost use Rattle.device.specs.Steps.{shown_plane};
@@ -16,7 +17,7 @@ use words::Plane;
 
 // An answer: its number, and the plane shown, 0 for P0 and 1 for P1.
 #[repr(C)]
-#[derive(Drop)]
+#[derive(Clone, Copy)]
 pub struct ShownAnswer {
     pub number: u8,
     pub plane: u8,
@@ -24,7 +25,7 @@ pub struct ShownAnswer {
 
 // An answer: its number, and 1 where the interrupt is raised.
 #[repr(C)]
-#[derive(Drop)]
+#[derive(Clone, Copy)]
 pub struct InterruptAnswer {
     pub number: u8,
     pub raised: u8,
@@ -32,7 +33,7 @@ pub struct InterruptAnswer {
 
 // An answer: its number, and the answer mark, 1 where the word last taken was a read.
 #[repr(C)]
-#[derive(Drop)]
+#[derive(Clone, Copy)]
 pub struct MarkAnswer {
     pub number: u8,
     pub mark: u8,
@@ -40,7 +41,7 @@ pub struct MarkAnswer {
 
 // An answer: its number, and what P4 to P31 drive, P4 first: 0 undriven, 1 low, 2 high, 2 + s an LED current of s sixteenths.
 #[repr(C)]
-#[derive(Drop)]
+#[derive(Clone, Copy)]
 pub struct PortAnswer {
     pub number: u8,
     pub ports: [u8; 28],

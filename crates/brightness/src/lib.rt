@@ -1,4 +1,5 @@
 // Which cathodes of a MAX6954 are dark, and the brightness of each digit with what rules it.
+#![tactic(auto)]
 ghost use Rattle.std.specs.Prelude.{◌≡◌};
 ghost use Rattle.brightness.specs.Dark.{dark};
 ghost use Rattle.brightness.specs.Brightness.{own_nibble, nibble_of, sixteenths, ruled_to, brightness_of, ruler_of, ruler_code, brightness_answer};
@@ -7,7 +8,7 @@ ghost use Rattle.brightness.specs.Tables.{BrightnessTables};
 use device::Device;
 
 // What rules the brightness of a digit: nothing where refused, the global register, the digit's own nibble, display test.
-#[derive(Drop)]
+#[derive(Clone, Copy)]
 pub enum Ruler {
     Nothing,
     Global,
@@ -17,7 +18,7 @@ pub enum Ruler {
 
 // An answer: its number, the brightness in sixteenths, and the number of what rules it.
 #[repr(C)]
-#[derive(Drop)]
+#[derive(Clone, Copy)]
 pub struct BrightnessAnswer {
     pub number: u8,
     pub sixteenths: u8,

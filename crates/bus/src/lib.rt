@@ -1,4 +1,5 @@
 // The two-wire bus of the MAX6955: its state, and the theorems over its calls and whole lists of them.
+#![tactic(auto)]
 ghost use Rattle.bus.specs.BusIsolation.{BusIsolation};
 ghost use Rattle.bus.specs.Acknowledged.{Acknowledged};
 ghost use Rattle.bus.specs.Transactions.{Transactions};
@@ -8,7 +9,7 @@ ghost use Rattle.bus.specs.ChainCalls.{ChainCalls};
 ghost use Rattle.bus.specs.BusExamples.{BusExamples};
 
 #[repr(C)]
-#[derive(Drop)]
+#[derive(Clone, Copy)]
 pub struct Bus {
     // The part that the open transfer names; 0 where none is open.
     pub part: usize,

@@ -1,4 +1,5 @@
 // The calls on a chain of MAX6954, MAX6955 and MAX6957: a lent row of records, nearest the controller first. Drivers are counted from 1.
+#![tactic(auto)]
 ghost use Rattle.std.specs.Prelude.{◌≡◌, [], ◌∷◌, length};
 ghost use Rattle.device.specs.PowerUp.{power_up, power_up6957};
 ghost use Rattle.calls.specs.Calls.{access as accessCall, give, ask, scan, levels as pinLevels, clocks as masterClocks, plane, plane_shown, segments, brightness, shown, interrupt, answer_mark, look_back, ports as portsQuestion, ask_chain, plan, plan_check};

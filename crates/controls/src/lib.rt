@@ -1,4 +1,5 @@
 // The control registers of a MAX6954, and the bits of its configuration register.
+#![tactic(auto)]
 ghost use Rattle.std.specs.Prelude.{◌≡◌, ◌≤◌};
 ghost use Rattle.controls.specs.Controls.{control_written, control_data};
 ghost use Rattle.controls.specs.Config.{config_of, phase_bit, config_data};
@@ -7,7 +8,7 @@ ghost use Rattle.controls.specs.Widths.{Widths};
 use words::{ControlRegister, Plane};
 
 #[repr(C)]
-#[derive(Drop)]
+#[derive(Clone, Copy)]
 pub struct Controls {
     // Decode mode: bit d for digits d and da.
     pub decode: u8,
@@ -79,7 +80,7 @@ impl Controls {
 
 // The stored bits of the configuration register, 0 or 1 each in a sound record.
 #[repr(C)]
-#[derive(Drop)]
+#[derive(Clone, Copy)]
 pub struct Config {
     // 1: intensity digit by digit.
     pub i: u8,

@@ -1,4 +1,5 @@
 // One driver by value: its record, the word that it takes, and the other steps that change it.
+#![tactic(auto)]
 ghost use Rattle.std.specs.Prelude.{◌≡◌};
 ghost use Rattle.ground.specs.Choice.{if, bit};
 ghost use Rattle.words.specs.declared.Word.TheVariants.{Write, Read};
@@ -26,7 +27,7 @@ use registers::Registers;
 use words::{Plane, Register, Word};
 
 #[repr(C)]
-#[derive(Drop)]
+#[derive(Clone, Copy)]
 pub struct Device {
     pub registers: Registers,
     // The shift word, D15 first.

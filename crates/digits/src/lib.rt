@@ -1,4 +1,5 @@
 // What a MAX6954 keeps for its digits: both planes, and the intensity registers.
+#![tactic(auto)]
 ghost use Rattle.std.specs.Prelude.{◌≡◌, get_or, set};
 ghost use Rattle.ground.specs.Choice.{if};
 ghost use Rattle.digits.specs.Digits.{plane_of, digit_written, both_written, cleared};
@@ -8,7 +9,7 @@ use words::Plane;
 
 // Digits 0 to 7, then 0a to 7a, in both planes.
 #[repr(C)]
-#[derive(Drop)]
+#[derive(Clone, Copy)]
 pub struct Planes {
     pub p0: [u8; 16],
     pub p1: [u8; 16],

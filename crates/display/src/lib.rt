@@ -1,4 +1,5 @@
 // What a cathode of one MAX6954 shows: its pins. The function that answers it is in `shown_pins`.
+#![tactic(auto)]
 ghost use Rattle.std.specs.Prelude.{◌≡◌};
 ghost use Rattle.blink.specs.Part.{plane_part};
 ghost use Rattle.device.specs.Steps.{shown_plane};
@@ -10,7 +11,7 @@ ghost use Rattle.display.specs.Examples.{Examples};
 use device::Device;
 
 // A pin of a cathode.
-#[derive(Drop)]
+#[derive(Clone, Copy)]
 pub enum Pin {
     NotDriven,
     Cathode,
@@ -36,7 +37,7 @@ impl Pin {
 
 // An answer: its number, and the pins O0 to O18 by theirs.
 #[repr(C)]
-#[derive(Drop)]
+#[derive(Clone, Copy)]
 pub struct SegmentAnswer {
     pub number: u8,
     pub pins: [u8; 19],

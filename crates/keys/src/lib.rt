@@ -1,4 +1,5 @@
 // The keys of a MAX6954: four groups of eight, scanned into debounced registers with an interrupt.
+#![tactic(auto)]
 ghost use Rattle.std.specs.Prelude.{◌≡◌};
 ghost use Rattle.keys.specs.Keys.{group_of, with_group, groups_of, mask_written, debounced_read, scanned_keys};
 ghost use Rattle.keys.specs.PackedKeys.{joined, split, configured, packed, unpacked, newly_packed, scanned_packed, raises_packed};
@@ -9,7 +10,7 @@ use words::KeyGroup;
 
 // Bit k of each byte is key k of the group. `held` has the keys already counted in this press.
 #[repr(C)]
-#[derive(Drop)]
+#[derive(Clone, Copy)]
 pub struct Group {
     pub mask: u8,
     pub debounced: u8,
@@ -28,7 +29,7 @@ impl Group {
 
 // interrupt is 0 or 1 in a sound record.
 #[repr(C)]
-#[derive(Drop)]
+#[derive(Clone, Copy)]
 pub struct Keys {
     pub a: Group,
     pub b: Group,
@@ -132,7 +133,7 @@ impl Keys {
 }
 
 // The registers of all four groups, one number each: group A in the lowest byte, D in the highest.
-#[derive(Drop)]
+#[derive(Clone, Copy)]
 struct Packed {
     mask: u32,
     debounced: u32,
@@ -214,7 +215,7 @@ fn joined(a: u8, b: u8, c: u8, d: u8) -> u32
 }
 
 // One byte of each group.
-#[derive(Drop)]
+#[derive(Clone, Copy)]
 struct Four {
     a: u8,
     b: u8,

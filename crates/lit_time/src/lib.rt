@@ -1,4 +1,5 @@
 // The lit time of a run: what it means, and what is proved of it.
+#![tactic(auto)]
 ghost use Rattle.lit_time.specs.Periods.{Periods};
 ghost use Rattle.lit_time.specs.TotalsFit.{TotalsFit};
 ghost use Rattle.lit_time.specs.Limits.{Limits};
@@ -6,7 +7,7 @@ ghost use Rattle.lit_time.specs.Examples.{Examples};
 
 // An answer: its number, and how many drivers the totals are of.
 #[repr(C)]
-#[derive(Drop)]
+#[derive(Clone, Copy)]
 pub struct LitTimeAnswer {
     pub number: u8,
     pub drivers: usize,

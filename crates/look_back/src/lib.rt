@@ -1,10 +1,11 @@
 // One byte of a driver's planes after a list of its words. The function that answers it is in `stopping_word`.
+#![tactic(auto)]
 ghost use Rattle.look_back.specs.NoFurther.{NoFurther};
 ghost use Rattle.look_back.specs.Examples.{Examples};
 
 // An answer: its number, and the byte.
 #[repr(C)]
-#[derive(Drop)]
+#[derive(Clone, Copy)]
 pub struct LookBackAnswer {
     pub number: u8,
     pub byte: u8,

@@ -1,4 +1,5 @@
 // The panel program: runs the script on standard input, and prints its lines on standard output.
+#![tactic(auto)]
 use libc::{STDERR_FILENO, STDIN_FILENO, STDOUT_FILENO};
 
 fn main() {

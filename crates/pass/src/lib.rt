@@ -1,4 +1,5 @@
 // A call's number by value: by its arguments, and by a pass over the records of a chain.
+#![tactic(auto)]
 ghost use Rattle.std.specs.Prelude.{◌≡◌, eqb, ltb, ◌<◌};
 ghost use Rattle.ground.specs.Choice.{if};
 ghost use Rattle.refusals.specs.Refusals.{chain_refusal, driver_refusal, sound_refusal, family_refusal};
@@ -11,7 +12,7 @@ ghost use Rattle.pass.specs.Found.{by_arguments, access_by_arguments, to_pass, t
 use device::Device;
 
 // What the records passed so far tell of soundness: the bits of their fields, one over the other.
-#[derive(Drop)]
+#[derive(Clone, Copy)]
 pub struct Widths {
     // A byte each, in the record's order: global, limit, gpio, ports, test, types, i, e.
     pub first: u64,
@@ -125,7 +126,7 @@ impl Widths {
 }
 
 // What the records passed so far tell, each by its own family.
-#[derive(Drop)]
+#[derive(Clone, Copy)]
 pub struct Seen {
     // Whether all but the MAX6957 were sound.
     pub sound: bool,

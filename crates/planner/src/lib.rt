@@ -1,4 +1,5 @@
 // The planner by value: the words that one driver needs for its wanted contents, its part of a list of accesses, and whether it accepts its part of one.
+#![tactic(auto)]
 ghost use Rattle.std.specs.Prelude.{◌+◌, ◌*◌, ◌%◌, ◌<◌, ◌≤◌, max, ◌&&◌, [], ◌∷◌, ◌++◌, ◌≡◌, eqb, ltb, length, replicate};
 ghost use Rattle.ground.specs.Choice.{if};
 ghost use Rattle.refusals.specs.Refusals.{first_of, wanted_refusal as wantedOf, list_refusal as list_of};
@@ -16,7 +17,7 @@ use words::Plane;
 
 // An answer: its number, and how many accesses the list has.
 #[repr(C)]
-#[derive(Drop)]
+#[derive(Clone, Copy)]
 pub struct PlanAnswer {
     pub number: u8,
     pub accesses: usize,
@@ -24,7 +25,7 @@ pub struct PlanAnswer {
 
 // An answer: its number, and 1 where the list is accepted.
 #[repr(C)]
-#[derive(Drop)]
+#[derive(Clone, Copy)]
 pub struct PlanCheckAnswer {
     pub number: u8,
     pub accepted: u8,

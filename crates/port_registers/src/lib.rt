@@ -1,4 +1,5 @@
 // The registers of one MAX6957 by value: what a write stores, what a read gives and leaves, and transition detection.
+#![tactic(auto)]
 ghost use Rattle.std.specs.Prelude.{◌≡◌, ◌/◌, ◌%◌, ◌<◌, get_or, set};
 ghost use Rattle.port_registers.specs.Levels.{directions, inputs, levels, watched};
 ghost use Rattle.port_registers.specs.PackedPairs.{drawn, sixteen};
@@ -18,7 +19,7 @@ use port_words::{PortRegister, PortWord};
 
 // The stored bits of the configuration register, 0 or 1 each in a sound record.
 #[repr(C)]
-#[derive(Drop)]
+#[derive(Clone, Copy)]
 pub struct PortConfig {
     // 1: P31 is INT.
     pub m: u8,
@@ -50,7 +51,7 @@ impl PortConfig {
 
 // Transition detection: bit j of mask and snapshot is port 24 + j.
 #[repr(C)]
-#[derive(Drop)]
+#[derive(Clone, Copy)]
 pub struct Transition {
     pub mask: u8,
     pub snapshot: u8,
@@ -85,7 +86,7 @@ impl Transition {
 
 // Bit k of the stored bits and of the pin levels is port k + 4, 28 bits in a sound record.
 #[repr(C)]
-#[derive(Drop)]
+#[derive(Clone, Copy)]
 pub struct PortRegisters {
     pub stored: u32,
     pub pins: u32,

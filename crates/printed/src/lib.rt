@@ -1,10 +1,11 @@
 // What a script prints: its records, its lines, a run's number and room. The program that prints it is `script`.
+#![tactic(auto)]
 ghost use Rattle.printed.specs.Limits.{Limits};
 ghost use Rattle.printed.specs.ByteByByte.{ByteByByte};
 ghost use Rattle.printed.specs.Examples.{Examples};
 
 // What running a script leaves beside the room: its number, and how many bytes were printed.
-#[derive(Drop)]
+#[derive(Clone, Copy)]
 pub struct Ran {
     pub number: u8,
     pub length: usize,

@@ -1,4 +1,5 @@
 // The registers of one MAX6954 by value: what a write stores, and what a read gives and leaves.
+#![tactic(auto)]
 ghost use Rattle.std.specs.Prelude.{◌≡◌};
 ghost use Rattle.registers.specs.Record.{with_controls, with_intensities, with_keys, with_planes};
 ghost use Rattle.registers.specs.Registers.{configured, written, phase_of, gpio_data_of, data_of, after_read};
@@ -12,7 +13,7 @@ use words::{Plane, Register};
 
 // What the registers hold, and the pin levels and blink count that two of them show.
 #[repr(C)]
-#[derive(Drop)]
+#[derive(Clone, Copy)]
 pub struct Registers {
     pub controls: Controls,
     pub config: Config,

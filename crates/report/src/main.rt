@@ -1,4 +1,5 @@
 // The report program: runs the script on standard input, and prints the lit time of each driver's cathodes on standard output.
+#![tactic(auto)]
 use libc::{STDERR_FILENO, STDIN_FILENO, STDOUT_FILENO};
 
 fn main() {

@@ -1,4 +1,5 @@
 // A chain of MAX6954 by value: the calls on a row of records.
+#![tactic(auto)]
 ghost use Rattle.std.specs.Prelude.{◌-◌, ◌≤◌, ◌≡◌, length, get_or, set, take, replicate};
 ghost use Rattle.device.specs.PowerUp.{power_up};
 ghost use Rattle.calls.specs.Calls.{access as accessCall, give, scan as scanStep, levels as levelsStep, clocks as clocksStep, segments as segmentsQuestion};
@@ -13,21 +14,21 @@ use device::Device;
 use pass::Seen;
 
 // A chain of n drivers: the first n of sixteen records. A length above 16 counts as 16.
-#[derive(Drop)]
+#[derive(Clone, Copy)]
 pub struct Row {
     pub n: usize,
     pub devices: [Device; 16],
 }
 
 // What a call leaves: its number, and the row after it.
-#[derive(Drop)]
+#[derive(Clone, Copy)]
 pub struct Done {
     pub number: u8,
     pub row: Row,
 }
 
 // What a show finds: its number, the pins of a cathode, and the answer mark of its driver.
-#[derive(Drop)]
+#[derive(Clone, Copy)]
 pub struct Shown {
     pub number: u8,
     pub pins: [u8; 19],

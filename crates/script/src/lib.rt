@@ -1,4 +1,5 @@
 // The script program as a library: a script in, the lines that it prints out.
+#![tactic(auto)]
 mod format;
 mod lines;
 mod table;
@@ -16,14 +17,14 @@ use printed::Ran;
 use row::{Done, Row};
 
 // What a record leaves: the row, and the place after its line.
-#[derive(Drop)]
+#[derive(Clone, Copy)]
 struct Progress {
     row: Row,
     at: usize,
 }
 
 // Where a run starts: the chain's length, and the place of the first record after a chain record.
-#[derive(Drop)]
+#[derive(Clone, Copy)]
 struct Start {
     n: usize,
     from: usize,

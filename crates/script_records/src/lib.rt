@@ -1,4 +1,5 @@
 // The records of a script: their bytes, where a run starts, what one does to a row of drivers, the line of one that is refused.
+#![tactic(auto)]
 pub mod format;
 mod table;
 
@@ -12,7 +13,7 @@ use format::{byte, record_size, word};
 use row::{Done, Row};
 
 // Where a run starts: the chain's length, and the place of the first record after a chain record.
-#[derive(Drop)]
+#[derive(Clone, Copy)]
 pub struct Start {
     pub n: usize,
     pub from: usize,

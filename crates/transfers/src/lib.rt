@@ -1,4 +1,5 @@
 // The calls on the two-wire bus by value: their number, the bus state that they leave, what they answer, and the record that a byte reaches.
+#![tactic(auto)]
 ghost use Rattle.std.specs.Prelude.{◌≤◌, [], ◌∷◌, ◌≡◌, eqb, take};
 ghost use Rattle.ground.specs.Choice.{if};
 ghost use Rattle.bus.specs.Straps.{matched, distinct, seven_bits};
@@ -11,14 +12,14 @@ use device::Device;
 
 // The parts' addresses, part 1's first; those past the number of parts count for nothing.
 #[repr(C)]
-#[derive(Drop)]
+#[derive(Clone, Copy)]
 pub struct Straps {
     pub addresses: [u8; 16],
 }
 
 // An answer: its number, and the bus state after it.
 #[repr(C)]
-#[derive(Drop)]
+#[derive(Clone, Copy)]
 pub struct BusAnswer {
     pub number: u8,
     pub bus: Bus,
@@ -26,7 +27,7 @@ pub struct BusAnswer {
 
 // The answer to a byte: also 1 where it is acknowledged, and its data.
 #[repr(C)]
-#[derive(Drop)]
+#[derive(Clone, Copy)]
 pub struct ByteAnswer {
     pub number: u8,
     pub bus: Bus,

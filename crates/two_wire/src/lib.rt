@@ -1,4 +1,5 @@
 // The calls on a two-wire bus of MAX6955: a lent row of their records. Parts are counted from 1.
+#![tactic(auto)]
 ghost use Rattle.std.specs.Prelude.{◌≡◌, [], ◌∷◌};
 ghost use Rattle.bus.specs.BusCalls.{start, put, get, stop};
 ghost use Rattle.bus.specs.BusOutcome.{bus_outcome};

@@ -1,4 +1,5 @@
 // The segment pins O0 to O18 of each cathode (Tables 2 to 4), and the same packed.
+#![tactic(auto)]
 mod packed;
 mod table;
 
@@ -9,7 +10,7 @@ ghost use Rattle.wiring.specs.Table.{display_index, wire_entry, table, WiringTab
 ghost use Rattle.wiring.specs.PackedRows.{six_pins, packed_pins, parted, first_pins, packed_row};
 
 // What a cathode drives: a 16-segment digit, a 14-segment digit or two 7-segment digits.
-#[derive(Drop)]
+#[derive(Clone, Copy)]
 pub enum Display {
     Sixteen,
     Fourteen,
@@ -18,7 +19,7 @@ pub enum Display {
 
 // Eight pins, a byte a pin, the lowest byte first: each pin's number in an answer where its segment is lit, and its segment as one bit of byte
 // 0, 1 or 2 of the segments as one number.
-#[derive(Drop)]
+#[derive(Clone, Copy)]
 pub struct PackedPins {
     pub lit: u64,
     pub low: u64,
@@ -27,7 +28,7 @@ pub struct PackedPins {
 }
 
 // The pins O0 to O7, O8 to O15, and O16 to O18 of a cathode.
-#[derive(Drop)]
+#[derive(Clone, Copy)]
 pub struct PackedRow {
     pub first: PackedPins,
     pub middle: PackedPins,

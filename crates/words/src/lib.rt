@@ -1,15 +1,16 @@
 // The registers of a MAX6954, and the 16-bit words that write and read them (Table 6).
+#![tactic(auto)]
 ghost use Rattle.std.specs.Prelude.{◌≡◌};
 ghost use Rattle.words.specs.Addresses.{high_register, alike_at, written_at, read_at, word_of};
 ghost use Rattle.words.specs.Table6.{Table6};
 
-#[derive(Drop)]
+#[derive(Clone, Copy)]
 pub enum Plane {
     P0,
     P1,
 }
 
-#[derive(Drop)]
+#[derive(Clone, Copy)]
 pub enum KeyGroup {
     A,
     B,
@@ -18,7 +19,7 @@ pub enum KeyGroup {
 }
 
 // The registers that a driver keeps in one byte each.
-#[derive(Drop)]
+#[derive(Clone, Copy)]
 pub enum ControlRegister {
     DecodeMode,
     GlobalIntensity,
@@ -31,7 +32,7 @@ pub enum ControlRegister {
 
 // A register, with its key group, its plane and digit, or its number.
 // Intensity(j) is address 0x10 + j; digits 0 to 7 are 0 to 7, 0a to 7a are 8 to 15.
-#[derive(Drop)]
+#[derive(Clone, Copy)]
 pub enum Register {
     NoOp,
     Control(ControlRegister),
@@ -45,7 +46,7 @@ pub enum Register {
     Unlisted,
 }
 
-#[derive(Drop)]
+#[derive(Clone, Copy)]
 pub enum Word {
     Write(Register, u8),
     Read(Register),

@@ -6,5 +6,5 @@ returns : tie.Need-returns
 unfolding tabulate
 returns c = refl
 
-pub segments-refused-spec : {M : Type 1} → Rattle.answers.proofs.segments_refused.Statement.statement M
-segments-refused-spec = tie.close (tie.spec returns)
+pub segments_refused_spec : {M : Type 1} → Rattle.answers.proofs.segments_refused.Statement.statement M
+segments_refused_spec = tie.close (tie.spec returns)

@@ -1,5 +1,5 @@
 -- `blink::in_cycle` meets its contract. The invariant: what is left is below 2^k cycles, and has the same remainder. Assumes nothing.
-use Rattle.ground.proofs.Names.{ℕ, suc, ◌*◌, ◌-◌, ◌%◌, ◌^◌, ◌<◌, ◌≤◌, pow-suc, mod-eq_of_lt, arith, ◌≡◌, refl, pow_mono, needs}
+use Rattle.ground.proofs.Names.{ℕ, suc, ◌*◌, ◌-◌, ◌%◌, ◌^◌, ◌<◌, ◌≤◌, pow-suc, mod-eq_of_lt, arith, ◌≡◌, refl, pow_mono, rules}
 use Rattle.blink.proofs.in_cycle.Tie as tie
 
 abbrev invariant-loop : tie.invariant-loop
@@ -34,8 +34,8 @@ returns c =
     let h : l.left < 4000000 * 2 ^ 0 = rw z at l.invariant.1 in
     omega (arith, h, l.invariant.2)
 
-pub in-cycle-spec : {M : Type 1} → Rattle.blink.proofs.in_cycle.Statement.statement M
-in-cycle-spec =
+pub in_cycle_spec : {M : Type 1} → Rattle.blink.proofs.in_cycle.Statement.statement M
+in_cycle_spec =
     tie.close
-    (tie.spec invariant-loop decreases-loop (λ c. (omega arith, search needs, refl)) (λ c. search needs) (λ c. search needs) (λ c. search needs) loop-again
-    (λ c. search needs) loop-again-2 returns)
+    (tie.spec invariant-loop decreases-loop (λ c. (omega arith, search rules, refl)) (λ c. search rules) (λ c. search rules) (λ c. search rules) loop-again
+    (λ c. search rules) loop-again-2 returns)

@@ -2,5 +2,5 @@
 use Rattle.ground.proofs.Names.{and_mask}
 use Rattle.blink.proofs.is_set.Tie as tie
 
-pub is-set-spec : {M : Type 1} → Rattle.blink.proofs.is_set.Statement.statement M
-is-set-spec = tie.close (tie.spec (λ c. simp (and_mask c.args.v 1)))
+pub is_set_spec : {M : Type 1} → Rattle.blink.proofs.is_set.Statement.statement M
+is_set_spec = tie.close (tie.spec (λ c. simp (and_mask c.args.v 1)))

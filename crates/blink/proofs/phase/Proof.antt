@@ -1,5 +1,5 @@
 -- `blink::phase` meets its contract. Assumes nothing.
-use Rattle.ground.proofs.Names.{◌+◌, ◌%◌, arith, ◌≡◌, needs, tests}
+use Rattle.ground.proofs.Names.{◌+◌, ◌%◌, arith, ◌≡◌, rules, tests}
 use Rattle.blink.proofs.phase.Tie as tie
 
 -- a count brought below a cycle is in the same half of the fast period
@@ -12,7 +12,7 @@ returns c =
 returns-2 : tie.Need-returns-2
 returns-2 c = rw c.before.if1.false (search tests)
 
-pub phase-spec : {M : Type 1} → Rattle.blink.proofs.phase.Statement.statement M
-phase-spec =
+pub phase_spec : {M : Type 1} → Rattle.blink.proofs.phase.Statement.statement M
+phase_spec =
     tie.close
-    (tie.spec (λ c κs. search needs) (λ c κs. omega (arith, c.advanced.ensures)) returns returns-2 (λ c. rw c.before.if1.false (search tests)))
+    (tie.spec (λ c κs. search rules) (λ c κs. omega (arith, c.advanced.ensures)) returns returns-2 (λ c. rw c.before.if1.false (search tests)))

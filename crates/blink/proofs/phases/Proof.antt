@@ -2,5 +2,5 @@
 use Rattle.blink.proofs.Half.{phases}
 use Rattle.blink.proofs.phases.Tie as tie
 
-pub phases-spec : {M : Type 1} → Rattle.blink.proofs.phases.Statement.statement M
-phases-spec = tie.close (tie.spec (λ c. phases))
+pub phases_spec : {M : Type 1} → Rattle.blink.proofs.phases.Statement.statement M
+phases_spec = tie.close (tie.spec (λ c. phases))

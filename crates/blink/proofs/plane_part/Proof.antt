@@ -1,5 +1,5 @@
 -- `blink::plane_part` meets its contract. Assumes nothing.
-use Rattle.ground.proofs.Names.{arith, sym, ◌∙◌, ne_eqb, needs}
+use Rattle.ground.proofs.Names.{arith, sym, ◌∙◌, ne_eqb, rules}
 use Rattle.refusals.proofs.RefusalLaws.{PlaneServed as Served, plane_served as served}
 use Rattle.blink.proofs.plane_part.Tie as tie
 
@@ -33,8 +33,8 @@ returns-2 c = rw (← c.before.before.before.before.plane-refusal.ensures, c.bef
 returns-3 : tie.Need-returns-3
 returns-3 c = rw (← c.before.before.before.before.plane-refusal.ensures, c.before.before.before.if1.false) (simp c.before.enum-told2.given.1)
 
-pub plane-part-spec : {M : Type 1} → Rattle.blink.proofs.plane_part.Statement.statement M
-plane-part-spec =
+pub plane_part_spec : {M : Type 1} → Rattle.blink.proofs.plane_part.Statement.statement M
+plane_part_spec =
     tie.close
-    (tie.spec (λ c κs. search needs) (λ c. search needs) returns (λ c. omega (arith, (given c).digits)) (λ c. search needs) sub-result part-result-start
-    part-result-end (λ c. search needs) sub-result-2 part-result-start-2 part-result-end-2 returns-2 returns-3)
+    (tie.spec (λ c κs. search rules) (λ c. search rules) returns (λ c. omega (arith, (given c).digits)) (λ c. search rules) sub-result part-result-start
+    part-result-end (λ c. search rules) sub-result-2 part-result-start-2 part-result-end-2 returns-2 returns-3)

@@ -2,5 +2,5 @@
 use Rattle.ground.proofs.Names.{tests}
 use Rattle.brightness.proofs.ruled_by.Tie as tie
 
-pub ruled-by-spec : {M : Type 1} → Rattle.brightness.proofs.ruled_by.Statement.statement M
-ruled-by-spec = tie.close (tie.spec (λ c. search tests) (λ c. search tests) (λ c. search tests))
+pub ruled_by_spec : {M : Type 1} → Rattle.brightness.proofs.ruled_by.Statement.statement M
+ruled_by_spec = tie.close (tie.spec (λ c. search tests) (λ c. search tests) (λ c. search tests))

@@ -2,5 +2,5 @@
 use Rattle.bus.proofs.Bench.{bench}
 use Rattle.bus.proofs.bus_examples.Tie as tie
 
-pub bus-examples-spec : {M : Type 1} → Rattle.bus.proofs.bus_examples.Statement.statement M
-bus-examples-spec = tie.close (tie.spec (λ c. bench))
+pub bus_examples_spec : {M : Type 1} → Rattle.bus.proofs.bus_examples.Statement.statement M
+bus_examples_spec = tie.close (tie.spec (λ c. bench))

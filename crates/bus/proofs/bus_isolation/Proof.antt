@@ -2,5 +2,5 @@
 use Rattle.bus.proofs.Alone.{isolated}
 use Rattle.bus.proofs.bus_isolation.Tie as tie
 
-pub bus-isolation-spec : {M : Type 1} → Rattle.bus.proofs.bus_isolation.Statement.statement M
-bus-isolation-spec = tie.close (tie.spec (λ c. isolated))
+pub bus_isolation_spec : {M : Type 1} → Rattle.bus.proofs.bus_isolation.Statement.statement M
+bus_isolation_spec = tie.close (tie.spec (λ c. isolated))

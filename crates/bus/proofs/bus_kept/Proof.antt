@@ -2,5 +2,5 @@
 use Rattle.bus.proofs.Kept.{bus_kept}
 use Rattle.bus.proofs.bus_kept.Tie as tie
 
-pub bus-kept-spec : {M : Type 1} → Rattle.bus.proofs.bus_kept.Statement.statement M
-bus-kept-spec = tie.close (tie.spec (λ c. bus_kept))
+pub bus_kept_spec : {M : Type 1} → Rattle.bus.proofs.bus_kept.Statement.statement M
+bus_kept_spec = tie.close (tie.spec (λ c. bus_kept))

@@ -2,5 +2,5 @@
 use Rattle.bus.proofs.Sound.{soundness}
 use Rattle.bus.proofs.bus_soundness.Tie as tie
 
-pub bus-soundness-spec : {M : Type 1} → Rattle.bus.proofs.bus_soundness.Statement.statement M
-bus-soundness-spec = tie.close (tie.spec (λ c. soundness))
+pub bus_soundness_spec : {M : Type 1} → Rattle.bus.proofs.bus_soundness.Statement.statement M
+bus_soundness_spec = tie.close (tie.spec (λ c. soundness))

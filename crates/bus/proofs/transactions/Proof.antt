@@ -2,5 +2,5 @@
 use Rattle.bus.proofs.Whole.{all_transactions}
 use Rattle.bus.proofs.transactions.Tie as tie
 
-pub transactions-spec : {M : Type 1} → Rattle.bus.proofs.transactions.Statement.statement M
-transactions-spec = tie.close (tie.spec (λ c. all_transactions))
+pub transactions_spec : {M : Type 1} → Rattle.bus.proofs.transactions.Statement.statement M
+transactions_spec = tie.close (tie.spec (λ c. all_transactions))

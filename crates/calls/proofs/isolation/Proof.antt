@@ -2,5 +2,5 @@
 use Rattle.calls.proofs.Alone.{isolated}
 use Rattle.calls.proofs.isolation.Tie as tie
 
-pub isolation-spec : {M : Type 1} → Rattle.calls.proofs.isolation.Statement.statement M
-isolation-spec = tie.close (tie.spec (λ c. isolated))
+pub isolation_spec : {M : Type 1} → Rattle.calls.proofs.isolation.Statement.statement M
+isolation_spec = tie.close (tie.spec (λ c. isolated))

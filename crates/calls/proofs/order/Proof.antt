@@ -2,5 +2,5 @@
 use Rattle.calls.proofs.InOrder.{order}
 use Rattle.calls.proofs.order.Tie as tie
 
-pub order-spec : {M : Type 1} → Rattle.calls.proofs.order.Statement.statement M
-order-spec = tie.close (tie.spec (λ c. order))
+pub order_spec : {M : Type 1} → Rattle.calls.proofs.order.Statement.statement M
+order_spec = tie.close (tie.spec (λ c. order))

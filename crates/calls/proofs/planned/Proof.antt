@@ -2,5 +2,5 @@
 use Rattle.calls.proofs.Plans.{planned_calls}
 use Rattle.calls.proofs.planned.Tie as tie
 
-pub planned-spec : {M : Type 1} → Rattle.calls.proofs.planned.Statement.statement M
-planned-spec = tie.close (tie.spec (λ c. planned_calls))
+pub planned_spec : {M : Type 1} → Rattle.calls.proofs.planned.Statement.statement M
+planned_spec = tie.close (tie.spec (λ c. planned_calls))

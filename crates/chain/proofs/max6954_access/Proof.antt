@@ -207,9 +207,9 @@ module _ {M : Type 1} {𝓤 : Ura M} (𝓛 : Logic 𝓤) (mem : Memory → SProp
       suffices ! _ (ends_at 𝓛 access.ended stayed (access.clauses 𝓛 mem run) (y, tt) (byte.val nr) nr (x.chain, (tt, (tt, (x.bytes, tt)))) (x.chain-long, (tt, (tt, (x.bytes-long, tt))))) $ says ! x.is $
       move ! (1 ∷ 2 ∷ []) $ join ! $ frame ! $ move ! (1 ∷ 2 ∷ []) $ fjoin ! $ nothing ! $ fjoin ! $ nothing ! $ fjoin ! $ move ! (1 ∷ 0 ∷ []) $ fjoin ! $ frame ! $ owned ! byte.row (Is byte.row) (byte.makes 𝓛) nr _ is-nr $ done !)))))))
 
-pub max6954-access-spec : {M : Type 1} → access.Statement.statement M
+pub max6954_access_spec : {M : Type 1} → access.Statement.statement M
 unfolding access.Code.routine tables_of
-max6954-access-spec 𝓤 𝓛 𝓜 𝓡 =
+max6954_access_spec 𝓤 𝓛 𝓜 𝓡 =
     proves 𝓛 𝓜 𝓡 access.Code.env access.ended stayed (access.clauses 𝓛 𝓜.mem 𝓡.run)
     (Goes-gave_slice 𝓛 3 0 tt (plain (λ _. R)), (Goes-dropped 𝓛 3 (plain (λ _. size.row)) yes (λ κs x f. refl), (Goes-dropped 𝓛 3 (shr_slice_of (1 ∷ []) tt (plain (λ _. byte.row))) yes (λ κs x f. refl), (Goes-gave_slice 𝓛 3 2 tt (plain (λ _. byte.row)), tt))))
     access.Key.name access.Code.function (access.Code.unfolded 𝓤 𝓛.H 𝓜 𝓡) (λ κs. (mut_slice_vals, ((λ n. size.val n ∷ []), (shr_slice_vals, (mut_slice_vals, tt))))) (λ κs. (mut_slice_Tells (named 0) κs.0 R, (size.tells, (shr_slice_Tells (named 1) κs.1.0 byte.row, (mut_slice_Tells (named 2) κs.1.1.0 byte.row, tt)))))

@@ -7,8 +7,8 @@ use Rattle.device.proofs.Device.clocked as work
 use Rattle.shapes.proofs.Names.{[], ◌∷◌, word, held, gives_spec}
 use Rattle.chain.proofs.max6954_add_clocks as this
 
-pub max6954-add-clocks-spec : {M : Type 1} → this.Statement.statement M
+pub max6954_add_clocks_spec : {M : Type 1} → this.Statement.statement M
 unfolding this.Code.routine
-max6954-add-clocks-spec =
+max6954_add_clocks_spec =
     gives_spec own.Symbol.name work.Symbol.name 0 (held word ∷ []) (λ p. clocks p.0)
     this.Code.env this.Key.name this.Code.unfolded number.Met.met own.Met.met work.Met.met

@@ -9,9 +9,9 @@ use Rattle.answers.proofs.mark as work
 use Rattle.shapes.proofs.Names.{◌≡◌, [], ◌∷◌, held, asks_spec}
 use Rattle.chain.proofs.max6954_answer_mark as this
 
-pub max6954-answer-mark-spec : {M : Type 1} → this.Statement.statement M
+pub max6954_answer_mark_spec : {M : Type 1} → this.Statement.statement M
 unfolding this.Code.routine
-max6954-answer-mark-spec =
+max6954_answer_mark_spec =
     asks_spec number.Symbol.name own.Symbol.name refused.Symbol.name work.Symbol.name 0 [] (held mark_answer) (λ p. answer_mark)
     (λ r ds x. x ≡ record { number = r.number; records = ds; back = r.mark ∷ [] })
     (λ p r. r ≡ record { number = p.0; mark = 0 }) (λ n p r ds e. rw e)

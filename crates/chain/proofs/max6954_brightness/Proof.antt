@@ -10,9 +10,9 @@ use Rattle.brightness.proofs.brightness as work
 use Rattle.shapes.proofs.Names.{◌≡◌, [], ◌∷◌, size, held, asks_spec}
 use Rattle.chain.proofs.max6954_brightness as this
 
-pub max6954-brightness-spec : {M : Type 1} → this.Statement.statement M
+pub max6954_brightness_spec : {M : Type 1} → this.Statement.statement M
 unfolding this.Code.routine
-max6954-brightness-spec =
+max6954_brightness_spec =
     asks_spec number.Symbol.name own.Symbol.name refused.Symbol.name work.Symbol.name 0 (held size ∷ []) (held brightness_answer) (λ p. brightness p.0)
     (λ r ds x. x ≡ record { number = r.number; records = ds; back = r.sixteenths ∷ r.ruler ∷ [] })
     (λ p r. r ≡ record { number = p.0; sixteenths = 0; ruler = 0 }) (λ n p r ds e. rw e)

@@ -10,9 +10,9 @@ use Rattle.answers.proofs.interrupt as work
 use Rattle.shapes.proofs.Names.{◌≡◌, [], ◌∷◌, held, asks_spec}
 use Rattle.chain.proofs.max6954_interrupt as this
 
-pub max6954-interrupt-spec : {M : Type 1} → this.Statement.statement M
+pub max6954_interrupt_spec : {M : Type 1} → this.Statement.statement M
 unfolding this.Code.routine
-max6954-interrupt-spec =
+max6954_interrupt_spec =
     asks_spec number.Symbol.name own.Symbol.name refused.Symbol.name work.Symbol.name 0 [] (held interrupt_answer) (λ p. interrupt)
     (λ r ds x. x ≡ record { number = r.number; records = ds; back = r.raised ∷ [] })
     (λ p r. r ≡ record { number = p.0; raised = 0 }) (λ n p r ds e. rw e)

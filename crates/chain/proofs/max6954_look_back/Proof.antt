@@ -10,9 +10,9 @@ use Rattle.stopping_word.proofs.look_back as work
 use Rattle.shapes.proofs.Names.{◌≡◌, [], ◌∷◌, w16, size, held, lent, asks_spec}
 use Rattle.chain.proofs.max6954_look_back as this
 
-pub max6954-look-back-spec : {M : Type 1} → this.Statement.statement M
+pub max6954_look_back_spec : {M : Type 1} → this.Statement.statement M
 unfolding this.Code.routine
-max6954-look-back-spec =
+max6954_look_back_spec =
     asks_spec number.Symbol.name own.Symbol.name refused.Symbol.name work.Symbol.name 1 (held size ∷ held size ∷ lent w16 0 tt ∷ []) (held look_back_answer) (λ p. look_back p.0 p.1.0 p.1.1.0)
     (λ r ds x. x ≡ record { number = r.number; records = ds; back = r.byte ∷ [] })
     (λ p r. r ≡ record { number = p.0; byte = 0 }) (λ n p r ds e. rw e)

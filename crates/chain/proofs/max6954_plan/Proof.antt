@@ -109,9 +109,9 @@ module _ {M : Type 1} {𝓤 : Ura M} (𝓛 : Logic 𝓤) (mem : Memory → SProp
       suffices ! _ (ends_at 𝓛 planning.ended stayed (planning.clauses 𝓛 mem run) (y, tt) (plan_answer.val (record { number = number; accesses = if (eqb number 0) most 0 })) (record { number = number; accesses = if (eqb number 0) most 0 }) (tt, (tt, (left, tt))) (tt, (tt, (length_listed ys wanted.now list.now most (to_pass number n), tt)))) $ says ! (plan_outcome ys wanted.now list.now) $
       move ! (1 ∷ []) $ use1 𝓛 (‵ (flft κ q) ⊛ ‵ (flft κ₁ q₁) ⊛ ‵ (flft κ₂ q₂) ⊛ ‵ ftrue) (id⊢ 𝓤 _) $ frame ! $ fjoin ! $ nothing ! $ fjoin ! $ nothing ! $ fjoin ! $ frame ! $ owned ! plan_answer.row (Is plan_answer.row) (plan_answer.makes 𝓛) (record { number = number; accesses = if (eqb number 0) most 0 }) _ is-r $ done !))))))))))
 
-pub max6954-plan-spec : {M : Type 1} → planning.Statement.statement M
+pub max6954_plan_spec : {M : Type 1} → planning.Statement.statement M
 unfolding planning.Code.routine tables_of
-max6954-plan-spec 𝓤 𝓛 𝓜 𝓡 =
+max6954_plan_spec 𝓤 𝓛 𝓜 𝓡 =
     proves 𝓛 𝓜 𝓡 planning.Code.env planning.ended stayed (planning.clauses 𝓛 𝓜.mem 𝓡.run) (Goes-dropped 𝓛 3 (shr_slice_of (0 ∷ []) tt (plain (λ _. R))) yes (λ κs x f. refl), (Goes-dropped 𝓛 3 (shr_slice_of (1 ∷ []) tt (plain (λ _. byte.row))) yes (λ κs x f. refl), (Goes-gave_slice 𝓛 3 2 tt (plain (λ _. S)), tt)))
     planning.Key.name planning.Code.function (planning.Code.unfolded 𝓤 𝓛.H 𝓜 𝓡) (λ κs. (shr_slice_vals, (shr_slice_vals, (mut_slice_vals, tt)))) (λ κs. (shr_slice_Tells (named 0) κs.0 R, (shr_slice_Tells (named 1) κs.1.0 byte.row, (mut_slice_Tells (named 2) κs.1.1.0 S, tt))))
     (λ κs qs bounds a g are. via 𝓤 _ (fst∗ 𝓤 _ (emp 𝓤)) (walk 𝓛 𝓜.mem 𝓡.run κs.0 κs.1.0 κs.1.1.0 qs.0 qs.1.0 qs.1.1.0 a.0 a.1.0 a.1.1.0 (tables_of 𝓤 𝓛.H 𝓜 (tables 𝓤 𝓛.H 𝓜 𝓡 planning.Code.env))

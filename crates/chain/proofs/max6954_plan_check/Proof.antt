@@ -81,9 +81,9 @@ module _ {M : Type 1} {𝓤 : Ura M} (𝓛 : Logic 𝓤) (mem : Memory → SProp
       suffices ! _ (ends_at 𝓛 plan-check.ended stayed (plan-check.clauses 𝓛 mem run) (y, tt) (plan_check_answer.val (record { number = number; accepted = yes_or_no })) (record { number = number; accepted = yes_or_no }) (tt, (tt, (tt, tt))) (tt, (tt, (tt, tt)))) $ says ! (check_outcome ys wanted.now list.now) $
       use1 𝓛 (‵ (flft κ q) ⊛ ‵ (flft κ₁ q₁) ⊛ ‵ (flft κ₂ q₂) ⊛ ‵ ftrue) (id⊢ 𝓤 _) $ frame ! $ nothing ! $ nothing ! $ fjoin ! $ nothing ! $ fjoin ! $ nothing ! $ fjoin ! $ frame ! $ owned ! plan_check_answer.row (Is plan_check_answer.row) (plan_check_answer.makes 𝓛) (record { number = number; accepted = yes_or_no }) _ is-r $ done !))))))
 
-pub max6954-plan-check-spec : {M : Type 1} → plan-check.Statement.statement M
+pub max6954_plan_check_spec : {M : Type 1} → plan-check.Statement.statement M
 unfolding plan-check.Code.routine tables_of
-max6954-plan-check-spec 𝓤 𝓛 𝓜 𝓡 =
+max6954_plan_check_spec 𝓤 𝓛 𝓜 𝓡 =
     proves 𝓛 𝓜 𝓡 plan-check.Code.env plan-check.ended stayed (plan-check.clauses 𝓛 𝓜.mem 𝓡.run) (Goes-dropped 𝓛 3 (shr_slice_of (0 ∷ []) tt (plain (λ _. R))) yes (λ κs x f. refl), (Goes-dropped 𝓛 3 (shr_slice_of (1 ∷ []) tt (plain (λ _. byte.row))) yes (λ κs x f. refl), (Goes-dropped 𝓛 3 (shr_slice_of (2 ∷ []) tt (plain (λ _. half.row))) yes (λ κs x f. refl), tt)))
     plan-check.Key.name plan-check.Code.function (plan-check.Code.unfolded 𝓤 𝓛.H 𝓜 𝓡) (λ κs. (shr_slice_vals, (shr_slice_vals, (shr_slice_vals, tt)))) (λ κs. (shr_slice_Tells (named 0) κs.0 R, (shr_slice_Tells (named 1) κs.1.0 byte.row, (shr_slice_Tells (named 2) κs.1.1.0 half.row, tt))))
     (λ κs qs bounds a g are. via 𝓤 _ (fst∗ 𝓤 _ (emp 𝓤)) (walk 𝓛 𝓜.mem 𝓡.run κs.0 κs.1.0 κs.1.1.0 qs.0 qs.1.0 qs.1.1.0 a.0 a.1.0 a.1.1.0 (tables_of 𝓤 𝓛.H 𝓜 (tables 𝓤 𝓛.H 𝓜 𝓡 plan-check.Code.env))

@@ -10,9 +10,9 @@ use Rattle.display.proofs.plane as work
 use Rattle.shapes.proofs.Names.{◌≡◌, sym, [], ◌∷◌, w8, size, held, lent, asks_spec}
 use Rattle.chain.proofs.max6954_plane as this
 
-pub max6954-plane-spec : {M : Type 1} → this.Statement.statement M
+pub max6954_plane_spec : {M : Type 1} → this.Statement.statement M
 unfolding this.Code.routine
-max6954-plane-spec =
+max6954_plane_spec =
     asks_spec number.Symbol.name own.Symbol.name refused.Symbol.name work.Symbol.name 1 (lent w8 0 tt ∷ lent w8 0 tt ∷ held size ∷ held size ∷ []) (lent w8 0 tt) (λ p. plane p.0 p.1.0 p.1.1.0 p.1.1.1.0)
     (λ r ds x. x.back ≡ r)
     (λ p r. r ≡ []) (λ n p r ds e. sym e)

@@ -11,9 +11,9 @@ use Rattle.answers.proofs.plane_shown as work
 use Rattle.shapes.proofs.Names.{◌≡◌, [], ◌∷◌, w8, size, held, lent, asks_spec}
 use Rattle.chain.proofs.max6954_plane_shown as this
 
-pub max6954-plane-shown-spec : {M : Type 1} → this.Statement.statement M
+pub max6954_plane_shown_spec : {M : Type 1} → this.Statement.statement M
 unfolding this.Code.routine
-max6954-plane-shown-spec =
+max6954_plane_shown_spec =
     asks_spec number.Symbol.name own.Symbol.name refused.Symbol.name work.Symbol.name 2 (lent w8 0 tt ∷ lent w8 1 tt ∷ held size ∷ held size ∷ []) (held shown_answer) (λ p. plane_shown p.0 p.1.0 p.1.1.0 p.1.1.1.0)
     (λ r ds x. x ≡ record { number = r.number; records = ds; back = r.plane ∷ [] })
     (λ p r. r ≡ record { number = p.0; plane = 0 }) (λ n p r ds e. rw e)

@@ -12,9 +12,9 @@ use Rattle.shown_pins.proofs.segments as work
 use Rattle.shapes.proofs.Names.{◌≡◌, [], ◌∷◌, w16, size, held, lent, asks_spec}
 use Rattle.chain.proofs.max6954_segments as this
 
-pub max6954-segments-spec : {M : Type 1} → this.Statement.statement M
+pub max6954_segments_spec : {M : Type 1} → this.Statement.statement M
 unfolding this.Code.routine
-max6954-segments-spec =
+max6954_segments_spec =
     asks_spec number.Symbol.name own.Symbol.name refused.Symbol.name work.Symbol.name 2 (held size ∷ lent w16 0 tt ∷ lent w16 1 tt ∷ []) (held segment_answer) (λ p. segments p.0 p.1.0 p.1.1.0)
     (λ r ds x. x ≡ record { number = r.number; records = ds; back = r.pins })
     (λ p r. r ≡ record { number = p.0; pins = tabulate 19 (λ k. pin_code NotDriven) }) (λ n p r ds e. rw e)

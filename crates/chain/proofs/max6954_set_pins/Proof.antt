@@ -7,8 +7,8 @@ use Rattle.device.proofs.Device.with_pins as work
 use Rattle.shapes.proofs.Names.{[], ◌∷◌, word, held, gives_spec}
 use Rattle.chain.proofs.max6954_set_pins as this
 
-pub max6954-set-pins-spec : {M : Type 1} → this.Statement.statement M
+pub max6954_set_pins_spec : {M : Type 1} → this.Statement.statement M
 unfolding this.Code.routine
-max6954-set-pins-spec =
+max6954_set_pins_spec =
     gives_spec own.Symbol.name work.Symbol.name 0 (held word ∷ []) (λ p. levels p.0)
     this.Code.env this.Key.name this.Code.unfolded number.Met.met own.Met.met work.Met.met

@@ -11,9 +11,9 @@ use Rattle.answers.proofs.shown as work
 use Rattle.shapes.proofs.Names.{◌≡◌, [], ◌∷◌, held, asks_spec}
 use Rattle.chain.proofs.max6954_shown as this
 
-pub max6954-shown-spec : {M : Type 1} → this.Statement.statement M
+pub max6954_shown_spec : {M : Type 1} → this.Statement.statement M
 unfolding this.Code.routine
-max6954-shown-spec =
+max6954_shown_spec =
     asks_spec number.Symbol.name own.Symbol.name refused.Symbol.name work.Symbol.name 0 [] (held shown_answer) (λ p. shown)
     (λ r ds x. x ≡ record { number = r.number; records = ds; back = r.plane ∷ [] })
     (λ p r. r ≡ record { number = p.0; plane = 0 }) (λ n p r ds e. rw e)

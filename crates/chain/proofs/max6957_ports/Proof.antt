@@ -11,9 +11,9 @@ use Rattle.answers.proofs.ports as work
 use Rattle.shapes.proofs.Names.{◌≡◌, [], ◌∷◌, held, asks_spec}
 use Rattle.chain.proofs.max6957_ports as this
 
-pub max6957-ports-spec : {M : Type 1} → this.Statement.statement M
+pub max6957_ports_spec : {M : Type 1} → this.Statement.statement M
 unfolding this.Code.routine
-max6957-ports-spec =
+max6957_ports_spec =
     asks_spec number.Symbol.name own.Symbol.name refused.Symbol.name work.Symbol.name 0 [] (held port_answer) (λ p. ports)
     (λ r ds x. x ≡ record { number = r.number; records = ds; back = r.ports })
     (λ p r. r ≡ record { number = p.0; ports = replicate 28 0 }) (λ n p r ds e. rw e)

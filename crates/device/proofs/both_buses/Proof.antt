@@ -2,5 +2,5 @@
 use Rattle.device.proofs.Both.{both_buses}
 use Rattle.device.proofs.both_buses.Tie as tie
 
-pub both-buses-spec : {M : Type 1} → Rattle.device.proofs.both_buses.Statement.statement M
-both-buses-spec = tie.close (tie.spec (λ c. both_buses))
+pub both_buses_spec : {M : Type 1} → Rattle.device.proofs.both_buses.Statement.statement M
+both_buses_spec = tie.close (tie.spec (λ c. both_buses))

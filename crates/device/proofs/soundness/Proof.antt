@@ -2,5 +2,5 @@
 use Rattle.device.proofs.Sound.{soundness}
 use Rattle.device.proofs.soundness.Tie as tie
 
-pub soundness-spec : {M : Type 1} → Rattle.device.proofs.soundness.Statement.statement M
-soundness-spec = tie.close (tie.spec (λ c. soundness))
+pub soundness_spec : {M : Type 1} → Rattle.device.proofs.soundness.Statement.statement M
+soundness_spec = tie.close (tie.spec (λ c. soundness))

@@ -1,5 +1,5 @@
 -- `glyphs::glyph_segments` meets its contract. Assumes nothing.
-use Rattle.ground.proofs.Names.{refl, past, arith, ◌%◌, needs}
+use Rattle.ground.proofs.Names.{refl, past, arith, ◌%◌, rules}
 use Rattle.glyphs.proofs.glyph_segments.Tie as tie
 
 cast-result : tie.Need-overflow-cast-result
@@ -11,10 +11,10 @@ add-result c = omega (arith, c.shared-slice-known.given (c.before.before.args.by
 returns-2 : tie.Need-returns-2
 returns-2 c =
     let a = c.before.args in
-    omega (arith, past _ a.font.now (a.byte % 128) refl (search needs))
+    omega (arith, past _ a.font.now (a.byte % 128) refl (search rules))
 
-pub glyph-segments-spec : {M : Type 1} → Rattle.glyphs.proofs.glyph_segments.Statement.statement M
-glyph-segments-spec =
+pub glyph_segments_spec : {M : Type 1} → Rattle.glyphs.proofs.glyph_segments.Statement.statement M
+glyph_segments_spec =
     tie.close
-    (tie.spec (λ c. search needs) (λ c. search needs) (λ c. search needs) (λ c. search needs) (λ c. search needs) cast-result add-result (λ c. search needs)
+    (tie.spec (λ c. search rules) (λ c. search rules) (λ c. search rules) (λ c. search rules) (λ c. search rules) cast-result add-result (λ c. search rules)
     returns-2)

@@ -2,5 +2,5 @@
 use Rattle.glyphs.proofs.Segments.{segment_by_segment}
 use Rattle.glyphs.proofs.segment_by_segment.Tie as tie
 
-pub segment-by-segment-spec : {M : Type 1} → Rattle.glyphs.proofs.segment_by_segment.Statement.statement M
-segment-by-segment-spec = tie.close (tie.spec (λ c. segment_by_segment))
+pub segment_by_segment_spec : {M : Type 1} → Rattle.glyphs.proofs.segment_by_segment.Statement.statement M
+segment_by_segment_spec = tie.close (tie.spec (λ c. segment_by_segment))

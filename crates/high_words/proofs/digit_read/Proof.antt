@@ -2,5 +2,5 @@
 use Rattle.ground.proofs.Names.{tests}
 use Rattle.high_words.proofs.digit_read.Tie as tie
 
-pub digit-read-spec : {M : Type 1} → Rattle.high_words.proofs.digit_read.Statement.statement M
-digit-read-spec = tie.close (tie.spec (λ c. search tests) (λ c. search tests) (λ c. search tests))
+pub digit_read_spec : {M : Type 1} → Rattle.high_words.proofs.digit_read.Statement.statement M
+digit_read_spec = tie.close (tie.spec (λ c. search tests) (λ c. search tests) (λ c. search tests))

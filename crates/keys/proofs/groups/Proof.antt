@@ -2,5 +2,5 @@
 use Rattle.ground.proofs.Names.{tests}
 use Rattle.keys.proofs.groups.Tie as tie
 
-pub groups-spec : {M : Type 1} → Rattle.keys.proofs.groups.Statement.statement M
-groups-spec = tie.close (tie.spec (λ c. search tests) (λ c. search tests))
+pub groups_spec : {M : Type 1} → Rattle.keys.proofs.groups.Statement.statement M
+groups_spec = tie.close (tie.spec (λ c. search tests) (λ c. search tests))

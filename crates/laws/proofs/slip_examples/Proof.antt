@@ -2,5 +2,5 @@
 use Rattle.laws.proofs.Slipped.{slip_examples}
 use Rattle.laws.proofs.slip_examples.Tie as tie
 
-pub slip-examples-spec : {M : Type 1} → Rattle.laws.proofs.slip_examples.Statement.statement M
-slip-examples-spec = tie.close (tie.spec (λ c. slip_examples))
+pub slip_examples_spec : {M : Type 1} → Rattle.laws.proofs.slip_examples.Statement.statement M
+slip_examples_spec = tie.close (tie.spec (λ c. slip_examples))

@@ -2,5 +2,5 @@
 use Rattle.laws.proofs.Slipped.{slipped_access}
 use Rattle.laws.proofs.slipped_access.Tie as tie
 
-pub slipped-access-spec : {M : Type 1} → Rattle.laws.proofs.slipped_access.Statement.statement M
-slipped-access-spec = tie.close (tie.spec (λ c. slipped_access))
+pub slipped_access_spec : {M : Type 1} → Rattle.laws.proofs.slipped_access.Statement.statement M
+slipped_access_spec = tie.close (tie.spec (λ c. slipped_access))

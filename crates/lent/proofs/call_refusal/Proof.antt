@@ -113,9 +113,9 @@ module _ {M : Type 1} {𝓤 : Ura M} (𝓛 : Logic 𝓤) (mem : Memory → SProp
       suffices ! _ (ends_at 𝓛 this.ended stayed (this.clauses 𝓛 mem run) (y, tt) (byte.val a.0) a.0 (tt, (tt, (tt, tt))) (tt, (tt, (tt, tt)))) $ says ! a.1.0 $
       nothing ! $ move ! (1 ∷ 0 ∷ []) $ join ! $ frame ! $ nothing ! $ nothing ! $ fjoin ! $ nothing ! $ fjoin ! $ nothing ! $ fjoin ! $ frame ! $ owned ! byte.row (Is byte.row) (byte.makes 𝓛) a.0 _ a.1.1 $ done !)))))))
 
-pub call-refusal-spec : {M : Type 1} → this.Statement.statement M
+pub call_refusal_spec : {M : Type 1} → this.Statement.statement M
 unfolding this.Code.routine tables_of
-call-refusal-spec 𝓤 𝓛 𝓜 𝓡 =
+call_refusal_spec 𝓤 𝓛 𝓜 𝓡 =
     proves 𝓛 𝓜 𝓡 this.Code.env this.ended stayed (this.clauses 𝓛 𝓜.mem 𝓡.run) (Goes-dropped 𝓛 1 (shr_slice_of (0 ∷ []) tt (plain (λ _. R))) yes (λ κs x f. refl), (Goes-dropped 𝓛 1 (plain (λ _. size.row)) yes (λ κs x f. refl), (Goes-dropped 𝓛 1 (plain (λ _. word.row)) yes (λ κs x f. refl), tt)))
     this.Key.name this.Code.function (this.Code.unfolded 𝓤 𝓛.H 𝓜 𝓡) (λ κs. (shr_slice_vals, ((λ n. size.val n ∷ []), ((λ n. word.val n ∷ []), tt)))) (λ κs. (shr_slice_Tells (named 0) κs.0 R, (size.tells, (word.tells, tt))))
     (λ κs qs bounds a g are. via 𝓤 _ (fst∗ 𝓤 _ (emp 𝓤)) (walk 𝓛 𝓜.mem 𝓡.run κs.0 qs.0 a.0.ref_ptr.0 a.0.ref_ptr.1 0 a.0.now a.1.0 a.1.1.0 (tables_of 𝓤 𝓛.H 𝓜 (tables 𝓤 𝓛.H 𝓜 𝓡 this.Code.env))

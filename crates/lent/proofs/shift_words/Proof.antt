@@ -138,9 +138,9 @@ module _ {M : Type 1} {𝓤 : Ura M} (𝓛 : Logic 𝓤) (mem : Memory → SProp
       nothing ! $ move ! (4 ∷ 0 ∷ []) $ join ! $ move ! (1 ∷ 0 ∷ []) $ join ! $ frame ! $ fjoin ! $ pure_i ! (shr_slice_at S (ref (words_to ys ws (m first ys ws))) (shr_slice_vals (ref ws))) (tt, (tt, tt)) (ap (λ (k : ℕ). slice_val (b₁, o₁) k ∷ []) (sym long), subst (Room S) (sym long) room₁) $
       fjoin ! $ nothing ! $ move ! (1 ∷ 0 ∷ []) $ fjoin ! $ nothing ! $ fjoin ! $ nothing ! $ fjoin ! $ frame ! $ owned ! byte.row (Is byte.row) (byte.makes 𝓛) a.0 _ a.1.1 $ done !)))))))
 
-pub shift-words-spec : {M : Type 1} → shift-words.Statement.statement M
+pub shift_words_spec : {M : Type 1} → shift-words.Statement.statement M
 unfolding shift-words.Code.routine tables_of
-shift-words-spec 𝓤 𝓛 𝓜 𝓡 =
+shift_words_spec 𝓤 𝓛 𝓜 𝓡 =
     proves 𝓛 𝓜 𝓡 shift-words.Code.env shift-words.ended stayed (shift-words.clauses 𝓛 𝓜.mem 𝓡.run) (Goes-dropped 𝓛 2 (shr_slice_of (0 ∷ []) tt (plain (λ _. R))) yes (λ κs x f. refl), (Goes-dropped 𝓛 2 (plain (λ _. byte.row)) yes (λ κs x f. refl), (Goes-slice 𝓛 2 1 tt (plain (λ _. S)), tt)))
     shift-words.Key.name shift-words.Code.function (shift-words.Code.unfolded 𝓤 𝓛.H 𝓜 𝓡) (λ κs. (shr_slice_vals, ((λ n. byte.val n ∷ []), (mut_slice_vals, tt)))) (λ κs. (shr_slice_Tells (named 0) κs.0 R, (byte.tells, (mut_slice_Tells (named 1) κs.1.0 S, tt))))
     (λ κs qs bounds a g are. via 𝓤 _ (fst∗ 𝓤 _ (emp 𝓤)) (walk 𝓛 𝓜.mem 𝓡.run κs.0 κs.1.0 qs.0 qs.1.0 a.0.ref_ptr.0 a.0.ref_ptr.1 a.0.ghost_name a.0.now a.1.0 a.1.1.0.ref_ptr.0 a.1.1.0.ref_ptr.1 a.1.1.0.ghost_name a.1.1.0.now (tables_of 𝓤 𝓛.H 𝓜 (tables 𝓤 𝓛.H 𝓜 𝓡 shift-words.Code.env))

@@ -257,9 +257,9 @@ module _ {M : Type 1} {𝓤 : Ura M} (𝓛 : Logic 𝓤) (mem : Memory → SProp
       nothing ! $ move ! (1 ∷ 0 ∷ []) $ join ! $ move ! (3 ∷ 0 ∷ []) $ join ! $ frame ! $ fjoin ! $ pure_i ! (shr_slice_at R (ref (taken_to ys ws (m ys ws))) (shr_slice_vals (ref ys))) (tt, (tt, tt)) (ap (λ (k : ℕ). slice_val (b, o) k ∷ []) (sym long'), subst (Room R) (sym long') room) $
       fjoin ! $ nothing ! $ nothing ! $ fjoin ! $ move ! (1 ∷ 0 ∷ []) $ fjoin ! $ frame ! $ feq_i ! (List Val) (vunit ∷ []) (vunit ∷ []) refl $ done !))))
 
-pub take-words-spec : {M : Type 1} → take_words.Statement.statement M
+pub take_words_spec : {M : Type 1} → take_words.Statement.statement M
 unfolding take_words.Code.routine tables_of
-take-words-spec 𝓤 𝓛 𝓜 𝓡 =
+take_words_spec 𝓤 𝓛 𝓜 𝓡 =
     proves 𝓛 𝓜 𝓡 take_words.Code.env take_words.ended stayed (take_words.clauses 𝓛 𝓜.mem 𝓡.run) (Goes-slice 𝓛 2 0 tt (plain (λ _. R)), (Goes-dropped 𝓛 2 (shr_slice_of (1 ∷ []) tt (plain (λ _. S))) yes (λ κs x f. refl), tt))
     take_words.Key.name take_words.Code.function (take_words.Code.unfolded 𝓤 𝓛.H 𝓜 𝓡) (λ κs. (mut_slice_vals, (shr_slice_vals, tt))) (λ κs. (mut_slice_Tells (named 0) κs.0 R, (shr_slice_Tells (named 1) κs.1.0 S, tt)))
     (λ κs qs bounds a g are. via 𝓤 _ (fst∗ 𝓤 _ (emp 𝓤)) (walk 𝓛 𝓜.mem 𝓡.run κs.0 κs.1.0 qs.0 qs.1.0 a.0.ref_ptr.0 a.0.ref_ptr.1 a.0.ghost_name a.0.now a.1.0.ref_ptr.0 a.1.0.ref_ptr.1 a.1.0.ghost_name a.1.0.now (tables_of 𝓤 𝓛.H 𝓜 (tables 𝓤 𝓛.H 𝓜 𝓡 take_words.Code.env))

@@ -2,5 +2,5 @@
 use Rattle.lit_time.proofs.Limited.{limits}
 use Rattle.lit_time.proofs.limits.Tie as tie
 
-pub limits-spec : {M : Type 1} → Rattle.lit_time.proofs.limits.Statement.statement M
-limits-spec = tie.close (tie.spec (λ c. limits))
+pub limits_spec : {M : Type 1} → Rattle.lit_time.proofs.limits.Statement.statement M
+limits_spec = tie.close (tie.spec (λ c. limits))

@@ -2,5 +2,5 @@
 use Rattle.lit_time.proofs.Closing.{periods}
 use Rattle.lit_time.proofs.periods.Tie as tie
 
-pub periods-spec : {M : Type 1} → Rattle.lit_time.proofs.periods.Statement.statement M
-periods-spec = tie.close (tie.spec (λ c. periods))
+pub periods_spec : {M : Type 1} → Rattle.lit_time.proofs.periods.Statement.statement M
+periods_spec = tie.close (tie.spec (λ c. periods))

@@ -1,5 +1,5 @@
 -- `lit_time_calls::add_times` meets its contract. The invariant: d totals are added to. Assumes nothing.
-use Rattle.ground.proofs.Names.{ℕ, ◌+◌, ◌-◌, ◌≤◌, ◌<◌, arith, List, ◌≡◌, refl, ◌∙◌, get_or, ap, get_d_tabulate, needs}
+use Rattle.ground.proofs.Names.{ℕ, ◌+◌, ◌-◌, ◌≤◌, ◌<◌, arith, List, ◌≡◌, refl, ◌∙◌, get_or, ap, get_d_tabulate, rules}
 use Rattle.lit_time.specs.LitTime.{lit_time}
 use Rattle.lit_time_calls.specs.Progress.{Added}
 use Rattle.lit_time_calls.proofs.TotalLaws.{added_none, added_more, added_same}
@@ -48,8 +48,8 @@ returns c =
     let e : c.before.loop.d ≡ 8 = omega arith in
     added_same (rw e at c.before.loop.invariant.1) (time c.before.before)
 
-pub add-times-spec : {M : Type 1} → Rattle.lit_time_calls.proofs.add_times.Statement.statement M
-add-times-spec =
+pub add_times_spec : {M : Type 1} → Rattle.lit_time_calls.proofs.add_times.Statement.statement M
+add_times_spec =
     tie.close
-    (tie.spec invariant-loop decreases-loop (λ c κs. search needs) (λ c. (omega arith, added_none _ _ _)) add-place mul-totals (λ c. search needs) mul-totals-2
-    slice-read-totals add-totals slice-write-totals (λ c. search needs) (λ c. search needs) loop-again (λ c. c.before.loop.invariant.1.same_room) returns)
+    (tie.spec invariant-loop decreases-loop (λ c κs. search rules) (λ c. (omega arith, added_none _ _ _)) add-place mul-totals (λ c. search rules) mul-totals-2
+    slice-read-totals add-totals slice-write-totals (λ c. search rules) (λ c. search rules) loop-again (λ c. c.before.loop.invariant.1.same_room) returns)

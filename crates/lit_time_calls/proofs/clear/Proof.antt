@@ -1,5 +1,5 @@
 -- `lit_time_calls::clear` meets its contract. Assumes nothing.
-use Rattle.ground.proofs.Names.{◌-◌, ◌≤◌, arith, ◌≡◌, refl, needs}
+use Rattle.ground.proofs.Names.{◌-◌, ◌≤◌, arith, ◌≡◌, refl, rules}
 use Rattle.lit_time_calls.specs.Progress.{Totals}
 use Rattle.lit_time_calls.proofs.TotalLaws.{totals_none, totals_more}
 use Rattle.lit_time_calls.proofs.clear.Tie as tie
@@ -30,5 +30,5 @@ returns c =
 pub clear_spec : {M : Type 1} → Rattle.lit_time_calls.proofs.clear.Statement.statement M
 clear_spec =
     tie.close
-    (tie.spec invariant-loop decreases-loop loop-holds mul-totals slice-write-totals (λ c. search needs) (λ c. search needs) loop-again
+    (tie.spec invariant-loop decreases-loop loop-holds mul-totals slice-write-totals (λ c. search rules) (λ c. search rules) loop-again
     (λ c. c.before.loop.invariant.1.same_room) returns)

@@ -1,5 +1,5 @@
 -- `lit_time_calls::max6954_lit_time` meets its contract. Assumes nothing.
-use Rattle.ground.proofs.Names.{◌<◌, arith, ltb, ltb-true, and_right, needs}
+use Rattle.ground.proofs.Names.{◌<◌, arith, ltb, ltb-true, and_right, rules}
 use Rattle.lit_time_calls.proofs.AnswerLaws.{too_long, totals_then, bad_chain, no_room, answered}
 use Rattle.lit_time_calls.proofs.max6954_lit_time.Tie as tie
 
@@ -38,7 +38,7 @@ returns-4 c =
     let a = c.before.before.before.before.before.before.args in
     rw c.refused3.ensures (bad_chain a.script.now a.totals.now _ c.before.before.start_of_lem.ensures c.before.before.before.if1.false c.before.if2.false)
 
-pub max6954-lit-time-spec : {M : Type 1} → Rattle.lit_time_calls.proofs.max6954_lit_time.Statement.statement M
-max6954-lit-time-spec =
+pub max6954_lit_time_spec : {M : Type 1} → Rattle.lit_time_calls.proofs.max6954_lit_time.Statement.statement M
+max6954_lit_time_spec =
     tie.close
-    (tie.spec (λ c κs. search needs) returns (λ c κs. search needs) mul-count (λ c κs. search needs) returns-2 (λ c κs. search needs) (λ c κs. search needs) (λ c. search needs) run-records-requires (λ c. search needs) returns-3 (λ c κs. search needs) returns-4)
+    (tie.spec (λ c κs. search rules) returns (λ c κs. search rules) mul-count (λ c κs. search rules) returns-2 (λ c κs. search rules) (λ c κs. search rules) (λ c. search rules) run-records-requires (λ c. search rules) returns-3 (λ c κs. search rules) returns-4)

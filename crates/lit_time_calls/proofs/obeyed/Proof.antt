@@ -1,5 +1,5 @@
 -- `lit_time_calls::obeyed` meets its contract. Assumes nothing.
-use Rattle.ground.proofs.Names.{sym, ap, needs}
+use Rattle.ground.proofs.Names.{sym, ap, rules}
 use Rattle.row.specs.declared.Done.{Done}
 use Rattle.printed.specs.Format.{call_of}
 use Rattle.script_records.proofs.RecordLaws.{step_call}
@@ -29,7 +29,7 @@ returns-3 c =
     let m = c.before.before.before.before.match.rest in
     rw (step_call s.args.kind s.args.body.now s.requires.0.0 s.requires.0.1 m.0.1 m.1).0 c.before.before.stepped.ensures
 
-pub obeyed-spec : {M : Type 1} → Rattle.lit_time_calls.proofs.obeyed.Statement.statement M
-obeyed-spec =
+pub obeyed_spec : {M : Type 1} → Rattle.lit_time_calls.proofs.obeyed.Statement.statement M
+obeyed_spec =
     tie.close
-    (tie.spec (λ c. search needs) (λ c κs. search needs) stepped-requires returns returns-2 (λ c. search needs) returns-3)
+    (tie.spec (λ c. search rules) (λ c κs. search rules) stepped-requires returns returns-2 (λ c. search rules) returns-3)

@@ -1,5 +1,5 @@
 -- `lit_time_calls::run_records` meets its contract. Assumes nothing.
-use Rattle.ground.proofs.Names.{◌-◌, arith, length, needs}
+use Rattle.ground.proofs.Names.{◌-◌, arith, length, rules}
 use Rattle.script_records.proofs.RecordLaws.{Found, found, part_fits}
 use Rattle.lit_time_calls.proofs.RunLaws.{Running, run_starts, ready, stops_malformed, stops_chain, space, goes_on, run_ends}
 use Rattle.lit_time_calls.proofs.run_records.Tie as tie
@@ -30,10 +30,10 @@ returns-2 : tie.Need-returns-2 invariant-loop decreases-loop
 returns-2 c = stops_chain c.before.before.before.before.before.before.loop.invariant c.before.before.before.before.before.loop-test.true (it c.before.before) c.before.byte.ensures c.if2.true
 
 part-obeyed-start : tie.Need-slice-bounds-obeyed-start invariant-loop decreases-loop
-part-obeyed-start c = let f = (it c.before.before).five in search needs
+part-obeyed-start c = let f = (it c.before.before).five in search rules
 
 part-obeyed-end : tie.Need-slice-bounds-obeyed-end invariant-loop decreases-loop
-part-obeyed-end c = let f = (it c.before.before).rest_whole in search needs
+part-obeyed-end c = let f = (it c.before.before).rest_whole in search rules
 
 obeyed-requires : tie.Need-obeyed-requires invariant-loop decreases-loop
 obeyed-requires c κs =
@@ -47,7 +47,7 @@ obeyed-requires c κs =
     )
 
 add-from : tie.Need-overflow-add-from invariant-loop decreases-loop
-add-from c = let f = (it c.before.before.before.before.before.before.before).whole in search needs
+add-from c = let f = (it c.before.before.before.before.before.before.before).whole in search rules
 
 loop-less : tie.Need-loop-smaller invariant-loop decreases-loop
 loop-less c = let f = it c.before.before.before.before.before.before.before in omega (arith, f.whole, f.five)
@@ -56,9 +56,9 @@ loop-again : tie.Need-loop-preserved invariant-loop decreases-loop
 loop-again c =
     goes_on c.before.before.before.before.before.before.before.before.before.before.before.loop.invariant c.before.before.before.before.before.before.before.before.before.before.loop-test.true (it c.before.before.before.before.before.before.before) c.before.before.before.before.before.before.byte.ensures c.before.before.before.before.before.if2.false c.before.before.obeyed.ensures
 
-pub run-records-spec : {M : Type 1} → Rattle.lit_time_calls.proofs.run_records.Statement.statement M
-run-records-spec =
+pub run_records_spec : {M : Type 1} → Rattle.lit_time_calls.proofs.run_records.Statement.statement M
+run_records_spec =
     tie.close
-    (tie.spec invariant-loop decreases-loop (λ c κs. search needs) loop-holds sub-rest (λ c. search needs) (λ c. search needs) (λ c κs. search needs) (λ c. c.before.before.before.before.loop.invariant.same_room) returns (λ c κs. search needs)
+    (tie.spec invariant-loop decreases-loop (λ c κs. search rules) loop-holds sub-rest (λ c. search rules) (λ c. search rules) (λ c κs. search rules) (λ c. c.before.before.before.before.loop.invariant.same_room) returns (λ c κs. search rules)
     (λ c. c.before.before.before.before.before.before.loop.invariant.same_room) returns-2 (λ c. (it c.before.before).five) part-obeyed-start part-obeyed-end obeyed-requires add-from loop-less loop-again
     (λ c. c.before.loop.invariant.same_room) (λ c. run_ends c.before.loop.invariant (omega arith)))

@@ -1,5 +1,5 @@
 -- `lit_time_calls::stepped` meets its contract. Assumes nothing.
-use Rattle.ground.proofs.Names.{arith, ◌≡◌, sym, ap, subst, ◌∙◌, needs}
+use Rattle.ground.proofs.Names.{arith, ◌≡◌, sym, ap, subst, ◌∙◌, rules}
 use Rattle.calls.specs.Calls.{Call, give, clocks}
 use Rattle.row.specs.Row.{number_on}
 use Rattle.row.specs.declared.Done.{Done}
@@ -66,8 +66,8 @@ returns-4 c =
     (counted_clocks a.row (byte a.body.now 0) (clocks_of a.body.now) (served h) a.totals.now _ _ _ (rw (ticks h) at (ap (λ (y : Done). y.row) c.before.before.before.before.before.before.before.before.before.before.before.give.ensures)) s.requires.1 (there h) x
     (rw (j, c.before.before.before.before.clocks-of.ensures, s.requires.0) at c.before.before.add_times.ensures))
 
-pub stepped-spec : {M : Type 1} → Rattle.lit_time_calls.proofs.stepped.Statement.statement M
-stepped-spec =
+pub stepped_spec : {M : Type 1} → Rattle.lit_time_calls.proofs.stepped.Statement.statement M
+stepped_spec =
     tie.close
-    (tie.spec (λ c κs. search needs) returns returns-2 returns-3 (λ c κs. search needs) (λ c. search needs) (λ c κs. search needs) sub_at (λ c. search needs)
-    (λ c κs. search needs) add-times-requires (λ c. search needs) returns-4)
+    (tie.spec (λ c κs. search rules) returns returns-2 returns-3 (λ c κs. search rules) (λ c. search rules) (λ c κs. search rules) sub_at (λ c. search rules)
+    (λ c κs. search rules) add-times-requires (λ c. search rules) returns-4)

@@ -1,5 +1,5 @@
 -- `lit_time_code::cathode_time` meets its contract. Assumes nothing.
-use Rattle.ground.proofs.Names.{ℕ, ◌+◌, ◌-◌, ◌*◌, ◌≤◌, arith, mul-le-mul, ◌≡◌, ◌∙◌, needs}
+use Rattle.ground.proofs.Names.{ℕ, ◌+◌, ◌-◌, ◌*◌, ◌≤◌, arith, mul-le-mul, ◌≡◌, ◌∙◌, rules}
 use Rattle.words.specs.declared.Plane.TheVariants.{P0, P1}
 use Rattle.lit_time.specs.Closed.{byte_in, weight_in, Typed}
 use Rattle.lit_time.proofs.Closing.{in_both, by_weights}
@@ -63,10 +63,10 @@ returns c =
     ∙ rw (shown.shown-segments2.ensures, display.display-by.ensures, hex.bit_at.ensures, bright.before.sixteenths.ensures.0, bright.sixteenths2.ensures.0, digit1.ensures, digit1-a.ensures) in
     (rw (w0, w1), λ h e. rw (by_weights a.device a.cathode a.font14.now a.font16.now a.clocks t h, ← e, w0, w1))
 
-pub cathode-time-spec : {M : Type 1} → Rattle.lit_time_code.proofs.cathode_time.Statement.statement M
-cathode-time-spec =
+pub cathode_time_spec : {M : Type 1} → Rattle.lit_time_code.proofs.cathode_time.Statement.statement M
+cathode_time_spec =
     tie.close
-    (tie.spec (λ c. search needs) (λ c κs. search needs) (λ c. search needs) (λ c κs. search needs) (λ c κs. search needs) (λ c. search needs)
-    (λ c κs. search needs) (λ c κs. search needs) (λ c. search needs) (λ c κs. search needs) (λ c κs. search needs) (λ c. search needs) (λ c κs. search needs)
-    (λ c κs. search needs) (λ c κs. search needs) (λ c κs. search needs) (λ c κs. search needs) (λ c. search needs) mul-result sub-result cast-result-2
-    (λ c. search needs) mul-result-2 add-result returns)
+    (tie.spec (λ c. search rules) (λ c κs. search rules) (λ c. search rules) (λ c κs. search rules) (λ c κs. search rules) (λ c. search rules)
+    (λ c κs. search rules) (λ c κs. search rules) (λ c. search rules) (λ c κs. search rules) (λ c κs. search rules) (λ c. search rules) (λ c κs. search rules)
+    (λ c κs. search rules) (λ c κs. search rules) (λ c κs. search rules) (λ c κs. search rules) (λ c. search rules) mul-result sub-result cast-result-2
+    (λ c. search rules) mul-result-2 add-result returns)

@@ -1,5 +1,5 @@
 -- `lit_time_code::cathode_times` meets its contract. The invariant: d times are written. Assumes nothing.
-use Rattle.ground.proofs.Names.{◌-◌, ◌<◌, ◌≤◌, arith, append-nil, ◌∙◌, needs, Filled, filled_start, filled_more, filled_all}
+use Rattle.ground.proofs.Names.{◌-◌, ◌<◌, ◌≤◌, arith, append-nil, ◌∙◌, rules, Filled, filled_start, filled_more, filled_all}
 use Rattle.lit_time.specs.LitTime.{lit_time}
 use Rattle.lit_time.specs.Closed.{p0_of, time_by}
 use Rattle.lit_time_code.proofs.cathode_times.Tie as tie
@@ -11,7 +11,7 @@ abbrev decreases-loop : tie.decreases-loop
 decreases-loop device clocks font14 font16 p0 times₀ d₀ times d = 8 - d
 
 p0-clocks-requires : tie.Need-p0-clocks-requires invariant-loop decreases-loop
-p0-clocks-requires c κs = search needs
+p0-clocks-requires c κs = search rules
 
 loop-holds : tie.Need-loop-init invariant-loop decreases-loop
 loop-holds c = (omega arith, filled_start, λ h. filled_start)
@@ -34,7 +34,7 @@ returns c =
     let i = c.before.loop.invariant in
     (filled_all i.1 (omega arith) ∙ append-nil _, λ h. filled_all (i.2 h) (omega arith) ∙ append-nil _)
 
-pub cathode-times-spec : {M : Type 1} → Rattle.lit_time_code.proofs.cathode_times.Statement.statement M
-cathode-times-spec =
+pub cathode_times_spec : {M : Type 1} → Rattle.lit_time_code.proofs.cathode_times.Statement.statement M
+cathode_times_spec =
     tie.close
-    (tie.spec invariant-loop decreases-loop p0-clocks-requires loop-holds cathode-time-requires (λ c. search needs) (λ c. search needs) (λ c. search needs) (λ c. search needs) loop-again returns)
+    (tie.spec invariant-loop decreases-loop p0-clocks-requires loop-holds cathode-time-requires (λ c. search rules) (λ c. search rules) (λ c. search rules) (λ c. search rules) loop-again returns)

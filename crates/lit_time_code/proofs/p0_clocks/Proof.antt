@@ -1,5 +1,5 @@
 -- `lit_time_code::p0_clocks` meets its contract. Assumes nothing.
-use Rattle.ground.proofs.Names.{arith, sym, ◌∙◌, le_refl, needs}
+use Rattle.ground.proofs.Names.{arith, sym, ◌∙◌, le_refl, rules}
 use Rattle.lit_time.proofs.Counts.{below_more}
 use Rattle.lit_time_code.proofs.p0_clocks.Tie as tie
 
@@ -26,8 +26,8 @@ returns c =
 returns-2 : tie.Need-returns-2
 returns-2 c = (rw (sym c.before.is_set.ensures ∙ c.if1.false), le_refl _)
 
-pub p0-clocks-spec : {M : Type 1} → Rattle.lit_time_code.proofs.p0_clocks.Statement.statement M
-p0-clocks-spec =
+pub p0_clocks_spec : {M : Type 1} → Rattle.lit_time_code.proofs.p0_clocks.Statement.statement M
+p0_clocks_spec =
     tie.close
-    (tie.spec (λ c κs. search needs) (λ c κs. search needs) (λ c. search needs) (λ c κs. search needs) (λ c. search needs) (λ c κs. search needs) sub-result
+    (tie.spec (λ c κs. search rules) (λ c κs. search rules) (λ c. search rules) (λ c κs. search rules) (λ c. search rules) (λ c κs. search rules) sub-result
     cast-result returns returns-2)

@@ -1,5 +1,5 @@
 -- `lit_time_code::sixteenths` meets its contract. Assumes nothing.
-use Rattle.ground.proofs.Names.{arith, ◌≡◌, lt-ltb, needs}
+use Rattle.ground.proofs.Names.{arith, ◌≡◌, lt-ltb, rules}
 use Rattle.brightness.specs.Brightness.{brightness_of}
 use Rattle.lit_time.proofs.Weights.{bright_most}
 use Rattle.lit_time_code.proofs.sixteenths.Tie as tie
@@ -10,5 +10,5 @@ returns c =
     let e : c.before.brightness.result.sixteenths ≡ brightness_of a.device a.digit = rw (c.before.brightness.ensures, lt-ltb a.digit 16 (omega arith)) in
     (e, rw e (bright_most a.device a.digit))
 
-pub sixteenths-spec : {M : Type 1} → Rattle.lit_time_code.proofs.sixteenths.Statement.statement M
-sixteenths-spec = tie.close (tie.spec (λ c κs. search needs) (λ c. search needs) returns)
+pub sixteenths_spec : {M : Type 1} → Rattle.lit_time_code.proofs.sixteenths.Statement.statement M
+sixteenths_spec = tie.close (tie.spec (λ c κs. search rules) (λ c. search rules) returns)

@@ -1,5 +1,5 @@
 -- `lit_time_code::weight` meets its contract. Assumes nothing.
-use Rattle.ground.proofs.Names.{ℕ, ◌*◌, ◌≤◌, arith, mul-le-mul, needs}
+use Rattle.ground.proofs.Names.{ℕ, ◌*◌, ◌≤◌, arith, mul-le-mul, rules}
 use Rattle.lit_time_code.proofs.weight.Tie as tie
 
 -- ones times sixteenths
@@ -28,7 +28,7 @@ returns c =
       omega (arith, small _ _ c.before.before.ones-of.ensures.1 s.requires.0, small _ _ c.ones-of2.ensures.1 s.requires.1),
     )
 
-pub weight-spec : {M : Type 1} → Rattle.lit_time_code.proofs.weight.Statement.statement M
-weight-spec =
+pub weight_spec : {M : Type 1} → Rattle.lit_time_code.proofs.weight.Statement.statement M
+weight_spec =
     tie.close
-    (tie.spec (λ c κs. search needs) (λ c κs. search needs) (λ c κs. search needs) (λ c κs. search needs) mul-result mul-result-2 add-result returns)
+    (tie.spec (λ c κs. search rules) (λ c κs. search rules) (λ c κs. search rules) (λ c κs. search rules) mul-result mul-result-2 add-result returns)

@@ -2,5 +2,5 @@
 use Rattle.look_back.proofs.LookedLaws.{no_further}
 use Rattle.look_back.proofs.no_further.Tie as tie
 
-pub no-further-spec : {M : Type 1} → Rattle.look_back.proofs.no_further.Statement.statement M
-no-further-spec = tie.close (tie.spec (λ c. no_further))
+pub no_further_spec : {M : Type 1} → Rattle.look_back.proofs.no_further.Statement.statement M
+no_further_spec = tie.close (tie.spec (λ c. no_further))

@@ -1,11 +1,11 @@
 -- `pass::access_by_arguments` meets its contract. Assumes nothing.
-use Rattle.ground.proofs.Names.{needs}
+use Rattle.ground.proofs.Names.{rules}
 use Rattle.refusals.proofs.RefusalLaws.{first_last}
 use Rattle.pass.proofs.access_by_arguments.Tie as tie
 
 returns : tie.Need-returns
 returns c = simp (first_last, c.before.before.chain-refusal.ensures, c.before.size-refusal.ensures, c.first_of.ensures)
 
-pub access-by-arguments-spec : {M : Type 1} → Rattle.pass.proofs.access_by_arguments.Statement.statement M
-access-by-arguments-spec =
-    tie.close (tie.spec (λ c κs. search needs) (λ c κs. search needs) (λ c κs. search needs) returns)
+pub access_by_arguments_spec : {M : Type 1} → Rattle.pass.proofs.access_by_arguments.Statement.statement M
+access_by_arguments_spec =
+    tie.close (tie.spec (λ c κs. search rules) (λ c κs. search rules) (λ c κs. search rules) returns)

@@ -1,5 +1,5 @@
 -- `pass::found_old` meets its contract. Assumes nothing.
-use Rattle.ground.proofs.Names.{needs, tests}
+use Rattle.ground.proofs.Names.{rules, tests}
 use Rattle.refusals.specs.Refusals.{sound_refusal}
 use Rattle.pass.specs.Own.{argument_at, lack_at}
 use Rattle.pass.specs.Widths.{fit}
@@ -16,5 +16,5 @@ returns-2 c =
     simp (c.before.before.before.fit.ensures, c.before.before.sound-refusal.ensures, c.before.first_of.ensures, c.first-of2.ensures, digit_mask)
     (found_three s.first (argument_at s.own 0) (sound_refusal (fit s.widths)) (lack_at s.own 0) c.before.before.before.before.if1.false)
 
-pub found-old-spec : {M : Type 1} → Rattle.pass.proofs.found_old.Statement.statement M
-found-old-spec = tie.close (tie.spec returns (λ c κs. search needs) (λ c κs. search needs) (λ c. search (needs, digit_small)) (λ c κs. search needs) (λ c. search (needs, digit_small)) (λ c κs. search needs) returns-2)
+pub found_old_spec : {M : Type 1} → Rattle.pass.proofs.found_old.Statement.statement M
+found_old_spec = tie.close (tie.spec returns (λ c κs. search rules) (λ c κs. search rules) (λ c. search (rules, digit_small)) (λ c κs. search rules) (λ c. search (rules, digit_small)) (λ c κs. search rules) returns-2)

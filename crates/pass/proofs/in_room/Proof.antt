@@ -2,5 +2,5 @@
 use Rattle.ground.proofs.Names.{tests}
 use Rattle.pass.proofs.in_room.Tie as tie
 
-pub in-room-spec : {M : Type 1} → Rattle.pass.proofs.in_room.Statement.statement M
-in-room-spec = tie.close (tie.spec (λ c. search tests) (λ c. search tests))
+pub in_room_spec : {M : Type 1} → Rattle.pass.proofs.in_room.Statement.statement M
+in_room_spec = tie.close (tie.spec (λ c. search tests) (λ c. search tests))

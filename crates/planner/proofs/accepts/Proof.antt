@@ -30,5 +30,5 @@ returns-2 c =
     let h : tested s.each s.i s.n (length s.wanted.now) ≡ false = c.if1.false in
     rw (← and_assoc, h)
 
-pub accepts-spec : {M : Type 1} → Rattle.planner.proofs.accepts.Statement.statement M
-accepts-spec = tie.close (tie.spec own-accepted-requires returns returns-2)
+pub accepts_spec : {M : Type 1} → Rattle.planner.proofs.accepts.Statement.statement M
+accepts_spec = tie.close (tie.spec own-accepted-requires returns returns-2)

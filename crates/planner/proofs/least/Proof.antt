@@ -1,5 +1,5 @@
 -- `planner::least` meets its contract. Assumes nothing.
-use Rattle.ground.proofs.Names.{arith, needs}
+use Rattle.ground.proofs.Names.{arith, rules}
 use Rattle.digits.specs.Digits.{cleared}
 use Rattle.plans.specs.Lists.{wanted_at}
 use Rattle.plans.proofs.Potential.{needs_le}
@@ -16,6 +16,6 @@ returns c = omega (arith, rw c.before.before.cleared-if.ensures at c.before.plai
 returns-2 : tie.Need-returns-2
 returns-2 c = omega (arith, rw c.before.before.cleared-if.ensures at c.before.plain2.ensures)
 
-pub least-spec : {M : Type 1} → Rattle.planner.proofs.least.Statement.statement M
-least-spec =
-    tie.close (tie.spec (λ c κs. search needs) (λ c κs. search needs) (λ c κs. search needs) add-anew returns returns-2)
+pub least_spec : {M : Type 1} → Rattle.planner.proofs.least.Statement.statement M
+least_spec =
+    tie.close (tie.spec (λ c κs. search rules) (λ c κs. search rules) (λ c κs. search rules) add-anew returns returns-2)

@@ -16,5 +16,5 @@ returns-4 c =
     let a = c.before.before.before.args in
     rw (c.before.before.if1.false, le-ltb a.room (a.k * a.n) (omega (arith, mul-le-mul_right a.n c.if3.false, div-add-mod' a.room a.n)))
 
-pub list-refusal-spec : {M : Type 1} → Rattle.planner.proofs.list_refusal.Statement.statement M
-list-refusal-spec = tie.close (tie.spec (λ c. search tests) returns-2 (λ c. omega arith) returns-3 returns-4)
+pub list_refusal_spec : {M : Type 1} → Rattle.planner.proofs.list_refusal.Statement.statement M
+list_refusal_spec = tie.close (tie.spec (λ c. search tests) returns-2 (λ c. omega arith) returns-3 returns-4)

@@ -1,5 +1,5 @@
 -- `planner::own_accepted` meets its contract. The invariant: after a words, the rest decides by the planes so far. Assumes nothing.
-use Rattle.ground.proofs.Names.{ℕ, ◌+◌, ◌*◌, ◌-◌, ◌≤◌, ◌<◌, add-one, suc-mul, div-le_self, arith, ◌≡◌, refl, sym, ◌∙◌, length, drop, needs, not-true, not-false}
+use Rattle.ground.proofs.Names.{ℕ, ◌+◌, ◌*◌, ◌-◌, ◌≤◌, ◌<◌, add-one, suc-mul, div-le_self, arith, ◌≡◌, refl, sym, ◌∙◌, length, drop, rules, not-true, not-false}
 use Rattle.plans.specs.Lists.{wanted_at, words_at}
 use Rattle.planner.specs.OneDriver.{from_planes}
 use Rattle.planner.proofs.CheckLaws.{same_plain, word_taken_lem, word_refused, words_done, place_in}
@@ -44,10 +44,10 @@ returns-2 c =
     let l = c.before.before.loop in
     rw c.plain.ensures (sym (l.invariant.4 ∙ words_done _ _ l.p s.list.now s.n s.i l.a (omega arith) ∙ same_plain l.p _))
 
-pub own-accepted-spec : {M : Type 1} → Rattle.planner.proofs.own_accepted.Statement.statement M
-own-accepted-spec =
+pub own_accepted_spec : {M : Type 1} → Rattle.planner.proofs.own_accepted.Statement.statement M
+own_accepted_spec =
     tie.close
-    (tie.spec invariant-loop decreases-loop (λ c. search needs) loop-holds (λ c. let l = c.before.loop in omega (arith, l.invariant.2 l.a (omega arith)))
-    (λ c. let l = c.before.before.loop in omega (arith, l.invariant.2 l.a (omega arith))) (λ c κs. search needs) returns (λ c κs. search needs)
-    (λ c. let l = c.before.before.before.before.before.loop in omega (arith, l.invariant.2 l.a (omega arith))) (λ c. search needs) (λ c. search needs)
-    loop-again (λ c κs. search needs) returns-2)
+    (tie.spec invariant-loop decreases-loop (λ c. search rules) loop-holds (λ c. let l = c.before.loop in omega (arith, l.invariant.2 l.a (omega arith)))
+    (λ c. let l = c.before.before.loop in omega (arith, l.invariant.2 l.a (omega arith))) (λ c κs. search rules) returns (λ c κs. search rules)
+    (λ c. let l = c.before.before.before.before.before.loop in omega (arith, l.invariant.2 l.a (omega arith))) (λ c. search rules) (λ c. search rules)
+    loop-again (λ c κs. search rules) returns-2)

@@ -1,5 +1,5 @@
 -- `planner::plain` meets its contract. The invariant: the words of the digits below k. Assumes nothing.
-use Rattle.ground.proofs.Names.{◌≤◌, ◌-◌, add-one, arith, ◌≡◌, refl, ◌∙◌, needs}
+use Rattle.ground.proofs.Names.{◌≤◌, ◌-◌, add-one, arith, ◌≡◌, refl, ◌∙◌, rules}
 use Rattle.plans.specs.Least.{total, need_at}
 use Rattle.plans.specs.Lists.{wanted_at}
 use Rattle.plans.proofs.Potential.{need_le, needs_le}
@@ -34,10 +34,10 @@ loop-again c =
 returns : tie.Need-returns invariant-loop decreases-loop
 returns c = let e : c.before.loop.k ≡ 16 = omega arith in c.before.loop.invariant.1 ∙ rw e
 
-pub plain-spec : {M : Type 1} → Rattle.planner.proofs.plain.Statement.statement M
-plain-spec =
+pub plain_spec : {M : Type 1} → Rattle.planner.proofs.plain.Statement.statement M
+plain_spec =
     tie.close
-    (tie.spec invariant-loop decreases-loop (λ c. search needs) loop-holds (λ c. search needs) (λ c. search needs) (λ c. search needs) (λ c. search needs) (λ c. search needs)
-    (λ c. search needs) (λ c. search needs) (λ c κs. search needs) add-sum (λ c. search needs) (λ c. search needs) loop-again
+    (tie.spec invariant-loop decreases-loop (λ c. search rules) loop-holds (λ c. search rules) (λ c. search rules) (λ c. search rules) (λ c. search rules) (λ c. search rules)
+    (λ c. search rules) (λ c. search rules) (λ c κs. search rules) add-sum (λ c. search rules) (λ c. search rules) loop-again
     (λ c. let s = c.before.before.before.before.before.args in omega (arith, needs_le s.held (wanted_at s.wanted.now s.i) c.before.loop.k))
     returns)

@@ -2,5 +2,5 @@
 use Rattle.ground.proofs.Names.{tests}
 use Rattle.planner.proofs.plan_answer.Tie as tie
 
-pub plan-answer-spec : {M : Type 1} → Rattle.planner.proofs.plan_answer.Statement.statement M
-plan-answer-spec = tie.close (tie.spec (λ c. search tests) (λ c. search tests))
+pub plan_answer_spec : {M : Type 1} → Rattle.planner.proofs.plan_answer.Statement.statement M
+plan_answer_spec = tie.close (tie.spec (λ c. search tests) (λ c. search tests))

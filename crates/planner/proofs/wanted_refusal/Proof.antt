@@ -11,6 +11,6 @@ whole n wanted = go (eqb (wanted / 32) n) (eqb (wanted % 32) 0) refl refl
     go true false e f = ne_eqb wanted (32 * n) (λ z. eqb-false (wanted % 32) 0 f (omega arith))
     go false b e f = ne_eqb wanted (32 * n) (λ z. eqb-false (wanted / 32) n e (omega arith))
 
-pub wanted-refusal-spec : {M : Type 1} → Rattle.planner.proofs.wanted_refusal.Statement.statement M
-wanted-refusal-spec =
+pub wanted_refusal_spec : {M : Type 1} → Rattle.planner.proofs.wanted_refusal.Statement.statement M
+wanted_refusal_spec =
     tie.close (tie.spec (λ c. search tests) (λ c. simp (whole, c.before.if1.false, c.if2.true)) (λ c. simp (whole, c.before.if1.false, c.if2.false)))

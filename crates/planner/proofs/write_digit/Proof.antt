@@ -1,5 +1,5 @@
 -- `planner::write_digit` meets its contract, by what is right and wanted alike. Assumes nothing.
-use Rattle.ground.proofs.Names.{ℕ, ◌+◌, ◌*◌, ◌≤◌, arith, Bool, true, false, not, ◌&&◌, List, [], ◌∷◌, ◌≡◌, refl, ◌∙◌, eqb, needs, if}
+use Rattle.ground.proofs.Names.{ℕ, ◌+◌, ◌*◌, ◌≤◌, arith, Bool, true, false, not, ◌&&◌, List, [], ◌∷◌, ◌≡◌, refl, ◌∙◌, eqb, rules, if}
 use mir.Val.{bool_byte}
 use Rattle.plans.specs.Least.{need_by}
 use Rattle.plans.specs.Plan.{put1, words_by}
@@ -63,10 +63,10 @@ returns c =
       g.1 ∙ (places a.n a.at (eqb a.a a.x) (eqb a.b a.y) (eqb a.x a.y)).1,
     )
 
-pub write-digit-spec : {M : Type 1} → Rattle.planner.proofs.write_digit.Statement.statement M
-write-digit-spec =
+pub write_digit_spec : {M : Type 1} → Rattle.planner.proofs.write_digit.Statement.statement M
+write_digit_spec =
     tie.close
-    (tie.spec (λ c. search needs) (λ c. let a = c.before.args in omega (arith, one (eqb a.x a.y && not (eqb a.b a.y))))
+    (tie.spec (λ c. search rules) (λ c. let a = c.before.args in omega (arith, one (eqb a.x a.y && not (eqb a.b a.y))))
     (λ c. let a = c.before.args in omega (arith, one (eqb a.x a.y && not (eqb a.b a.y))))
-    (λ c κs. let a = c.before.args in (omega (arith, one (eqb a.x a.y && not (eqb a.b a.y))), search needs)) (λ c κs. search needs)
-    write-if-requires write-if-requires-2 (λ c. search needs) returns)
+    (λ c κs. let a = c.before.args in (omega (arith, one (eqb a.x a.y && not (eqb a.b a.y))), search rules)) (λ c κs. search rules)
+    write-if-requires write-if-requires-2 (λ c. search rules) returns)

@@ -1,5 +1,5 @@
 -- `planner::write_digits` meets its contract. The invariant: the words of the digits below k are put. Assumes nothing.
-use Rattle.ground.proofs.Names.{ℕ, ◌+◌, ◌*◌, ◌<◌, ◌≤◌, ◌-◌, add-one, add-mul, arith, List, ◌≡◌, refl, length, get_or, needs}
+use Rattle.ground.proofs.Names.{ℕ, ◌+◌, ◌*◌, ◌<◌, ◌≤◌, ◌-◌, add-one, add-mul, arith, List, ◌≡◌, refl, length, get_or, rules}
 use Rattle.digits.specs.declared.Planes.{Planes}
 use Rattle.plans.specs.Lists.{wanted_at}
 use Rattle.plans.specs.Least.{total, need, need_at, plain}
@@ -68,9 +68,9 @@ returns c =
     let e : l.k ≡ 16 = omega arith in
     (rw e at l.invariant.2, rw e at l.invariant.1)
 
-pub write-digits-spec : {M : Type 1} → Rattle.planner.proofs.write_digits.Statement.statement M
-write-digits-spec =
+pub write_digits_spec : {M : Type 1} → Rattle.planner.proofs.write_digits.Statement.statement M
+write_digits_spec =
     tie.close
-    (tie.spec invariant-loop decreases-loop (λ c. search needs) loop-holds (λ c. search needs) (λ c. search needs) (λ c. search needs) (λ c. search needs) (λ c. search needs)
-    (λ c. search needs) (λ c. search needs) write-digit-requires (λ c. search needs) (λ c. search needs) loop-again
+    (tie.spec invariant-loop decreases-loop (λ c. search rules) loop-holds (λ c. search rules) (λ c. search rules) (λ c. search rules) (λ c. search rules) (λ c. search rules)
+    (λ c. search rules) (λ c. search rules) write-digit-requires (λ c. search rules) (λ c. search rules) loop-again
     (λ c. rw c.before.loop.invariant.2 (length_put _ _ _ _)) returns)

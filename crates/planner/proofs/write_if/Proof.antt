@@ -1,5 +1,5 @@
 -- `planner::write_if` meets its contract. Assumes nothing.
-use Rattle.ground.proofs.Names.{◌<◌, arith, refl, length, needs}
+use Rattle.ground.proofs.Names.{◌<◌, arith, refl, length, rules}
 use Rattle.planner.specs.OneDriver.{put}
 use Rattle.planner.proofs.write_if.Tie as tie
 
@@ -14,5 +14,5 @@ returns-2 : tie.Need-returns-2
 unfolding put
 returns-2 c = rw c.if1.false (refl, refl)
 
-pub write-if-spec : {M : Type 1} → Rattle.planner.proofs.write_if.Statement.statement M
-write-if-spec = tie.close (tie.spec (λ c. omega (arith, inside c)) (λ c. inside c) (λ c. omega (arith, inside c)) (λ c. search needs) returns returns-2)
+pub write_if_spec : {M : Type 1} → Rattle.planner.proofs.write_if.Statement.statement M
+write_if_spec = tie.close (tie.spec (λ c. omega (arith, inside c)) (λ c. inside c) (λ c. omega (arith, inside c)) (λ c. search rules) returns returns-2)

@@ -1,5 +1,5 @@
 -- `planner::write_plan` meets its contract, by the laws of a list with a plan's words. Assumes nothing.
-use Rattle.ground.proofs.Names.{suc, ◌+◌, ◌-◌, ◌≤◌, suc-mul, mul-le-mul_right, arith, ◌≡◌, ap, ◌∙◌, length, length-set, needs}
+use Rattle.ground.proofs.Names.{suc, ◌+◌, ◌-◌, ◌≤◌, suc-mul, mul-le-mul_right, arith, ◌≡◌, ap, ◌∙◌, length, length-set, rules}
 use Rattle.digits.specs.Digits.{cleared}
 use Rattle.digits.specs.declared.Planes.{Planes}
 use Rattle.plans.specs.Least.{plain}
@@ -71,9 +71,9 @@ returns-4 c =
     let a = (start t).args in
     anew_many a.list.now a.n a.k a.i a.held a.config (q t) _ _ t.before.before.plain.ensures (anew t) (omega arith) c.if3.false
 
-pub write-plan-spec : {M : Type 1} → Rattle.planner.proofs.write_plan.Statement.statement M
-write-plan-spec =
+pub write_plan_spec : {M : Type 1} → Rattle.planner.proofs.write_plan.Statement.statement M
+write_plan_spec =
     tie.close
-    (tie.spec (λ c κs. search needs) (λ c κs. search needs) (λ c κs. search needs) add-cleared write-words-requires (λ c κs. search needs) (λ c. search needs)
-    slice-write-list (λ c. search needs) (λ c κs. search needs) write-words-requires-2 (λ c. search needs) returns returns-2
+    (tie.spec (λ c κs. search rules) (λ c κs. search rules) (λ c κs. search rules) add-cleared write-words-requires (λ c κs. search rules) (λ c. search rules)
+    slice-write-list (λ c. search rules) (λ c κs. search rules) write-words-requires-2 (λ c. search rules) returns returns-2
     (λ c. ap length c.before.before.write-words2.ensures ∙ simp (length_put, length-set)) returns-3 returns-4)

@@ -1,5 +1,5 @@
 -- `planner::write_waits` meets its contract. The invariant: what is left of the no-ops is to be put from here on. Assumes nothing.
-use Rattle.ground.proofs.Names.{suc, ◌+◌, ◌*◌, ◌≤◌, ◌<◌, ◌-◌, suc-mul, sub-zero, arith, ◌≡◌, refl, length, replicate, length-set, needs}
+use Rattle.ground.proofs.Names.{suc, ◌+◌, ◌*◌, ◌≤◌, ◌<◌, ◌-◌, suc-mul, sub-zero, arith, ◌≡◌, refl, length, replicate, length-set, rules}
 use Rattle.planner.specs.OneDriver.{put}
 use Rattle.planner.proofs.write_waits.Tie as tie
 
@@ -33,8 +33,8 @@ returns : tie.Need-returns invariant-loop decreases-loop
 unfolding put
 returns c = let e : c.before.before.args.count - c.before.loop.k ≡ 0 = omega arith in rw e at c.before.loop.invariant.3
 
-pub write-waits-spec : {M : Type 1} → Rattle.planner.proofs.write_waits.Statement.statement M
-write-waits-spec =
+pub write_waits_spec : {M : Type 1} → Rattle.planner.proofs.write_waits.Statement.statement M
+write_waits_spec =
     tie.close
-    (tie.spec invariant-loop decreases-loop loop-holds (λ c. omega (arith, room c)) (λ c. omega (arith, room c)) (λ c. omega (arith, room c)) (λ c. search needs)
-    (λ c. search needs) loop-again (λ c. c.before.loop.invariant.1) returns)
+    (tie.spec invariant-loop decreases-loop loop-holds (λ c. omega (arith, room c)) (λ c. omega (arith, room c)) (λ c. omega (arith, room c)) (λ c. search rules)
+    (λ c. search rules) loop-again (λ c. c.before.loop.invariant.1) returns)

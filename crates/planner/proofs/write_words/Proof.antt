@@ -1,5 +1,5 @@
 -- `planner::write_words` meets its contract: the no-ops have room after the digits' words. Assumes nothing.
-use Rattle.ground.proofs.Names.{add-mul, arith, needs}
+use Rattle.ground.proofs.Names.{add-mul, arith, rules}
 use Rattle.plans.proofs.Planner.{length_steps}
 use Rattle.planner.proofs.Puts.{length_put, put_append}
 use Rattle.planner.proofs.write_words.Tie as tie
@@ -18,7 +18,7 @@ returns c =
     let w = c.before.before.before.before.before.before.write-digits.ensures in
     rw (put_append, length_steps) (rw (w.0, w.1) at c.before.before.write-waits.ensures)
 
-pub write-words-spec : {M : Type 1} → Rattle.planner.proofs.write_words.Statement.statement M
-write-words-spec =
+pub write_words_spec : {M : Type 1} → Rattle.planner.proofs.write_words.Statement.statement M
+write_words_spec =
     tie.close
-    (tie.spec write-digits-requires write-waits-requires (λ c. search needs) returns)
+    (tie.spec write-digits-requires write-waits-requires (λ c. search rules) returns)

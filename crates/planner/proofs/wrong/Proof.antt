@@ -2,5 +2,5 @@
 use Rattle.ground.proofs.Names.{tests}
 use Rattle.planner.proofs.wrong.Tie as tie
 
-pub wrong-spec : {M : Type 1} → Rattle.planner.proofs.wrong.Statement.statement M
-wrong-spec = tie.close (tie.spec (λ c. search tests) (λ c. search tests))
+pub wrong_spec : {M : Type 1} → Rattle.planner.proofs.wrong.Statement.statement M
+wrong_spec = tie.close (tie.spec (λ c. search tests) (λ c. search tests))

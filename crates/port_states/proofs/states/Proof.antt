@@ -1,5 +1,5 @@
 -- `port_states::states` meets its contract. The invariant: k numbers are written, and the rest is as it was. Assumes nothing.
-use Rattle.ground.proofs.Names.{◌+◌, ◌-◌, arith, append-nil, ap, ◌∙◌, needs, Filled, filled_start, filled_more, filled_all}
+use Rattle.ground.proofs.Names.{◌+◌, ◌-◌, arith, append-nil, ap, ◌∙◌, rules, Filled, filled_start, filled_more, filled_all}
 use Rattle.port_states.specs.PortStates.{state_of, port_number, states_of}
 use Rattle.port_states.proofs.Driven.{numbers}
 use Rattle.port_states.proofs.states.Tie as tie
@@ -23,7 +23,7 @@ returns : tie.Need-returns invariant-loop decreases-loop
 unfolding states_of
 returns c = filled_all c.before.loop.invariant (omega arith) ∙ append-nil _
 
-pub states-spec : {M : Type 1} → Rattle.port_states.proofs.states.Statement.statement M
-states-spec =
+pub states_spec : {M : Type 1} → Rattle.port_states.proofs.states.Statement.statement M
+states_spec =
     tie.close
-    (tie.spec invariant-loop decreases-loop (λ c. filled_start) (λ c. omega arith) state-requires number-requires (λ c. search needs) (λ c. search needs) (λ c. omega arith) loop-again returns)
+    (tie.spec invariant-loop decreases-loop (λ c. filled_start) (λ c. omega arith) state-requires number-requires (λ c. search rules) (λ c. search rules) (λ c. omega arith) loop-again returns)

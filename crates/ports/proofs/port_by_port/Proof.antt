@@ -2,5 +2,5 @@
 use Rattle.ports.proofs.Ported.{port_by_port}
 use Rattle.ports.proofs.port_by_port.Tie as tie
 
-pub port-by-port-spec : {M : Type 1} → Rattle.ports.proofs.port_by_port.Statement.statement M
-port-by-port-spec = tie.close (tie.spec (λ c. port_by_port))
+pub port_by_port_spec : {M : Type 1} → Rattle.ports.proofs.port_by_port.Statement.statement M
+port_by_port_spec = tie.close (tie.spec (λ c. port_by_port))

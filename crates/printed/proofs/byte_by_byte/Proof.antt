@@ -2,5 +2,5 @@
 use Rattle.printed.proofs.Records.{byte_by_byte}
 use Rattle.printed.proofs.byte_by_byte.Tie as tie
 
-pub byte-by-byte-spec : {M : Type 1} → Rattle.printed.proofs.byte_by_byte.Statement.statement M
-byte-by-byte-spec = tie.close (tie.spec (λ c. byte_by_byte))
+pub byte_by_byte_spec : {M : Type 1} → Rattle.printed.proofs.byte_by_byte.Statement.statement M
+byte_by_byte_spec = tie.close (tie.spec (λ c. byte_by_byte))

@@ -12,9 +12,9 @@ use Rattle.planner.proofs.accepts as turn
 use Rattle.redraw.proofs.Passes.{passes_spec}
 use Rattle.redraw.proofs.accepted as this
 
-pub accepted-spec : {M : Type 1} → this.Statement.statement M
+pub accepted_spec : {M : Type 1} → this.Statement.statement M
 unfolding this.Code.routine below
-accepted-spec 𝓤 𝓛 𝓜 𝓡 =
+accepted_spec 𝓤 𝓛 𝓜 𝓡 =
     passes_spec turn.Symbol.name 2 (held size ∷ lent w8 0 tt ∷ lent w16 1 tt ∷ []) flag opd_true (λ ds p i. accept_to ds p.0 p.1.0 p.1.1.0 i) (λ s i d p. s && accepts_at d p.0 p.1.0 p.1.1.0 i)
     (λ ds p i. rw add-one refl) (λ ds p. refl) (λ ds p. record { read = λ t. true_lit t })
     𝓛 𝓜 𝓡 this.Code.env this.Key.name (this.Code.unfolded 𝓤 𝓛.H 𝓜 𝓡) (cited 𝓤 𝓛.H _ 𝓜 𝓡 this.Code.env look.Symbol.name look.Symbol.routine this.Code.calls-pass::to-pass (look.Met.met 𝓤 𝓛 𝓜 𝓡))

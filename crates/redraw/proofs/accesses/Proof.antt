@@ -11,9 +11,9 @@ use Rattle.planner.proofs.more as turn
 use Rattle.redraw.proofs.Passes.{passes_spec}
 use Rattle.redraw.proofs.accesses as this
 
-pub accesses-spec : {M : Type 1} → this.Statement.statement M
+pub accesses_spec : {M : Type 1} → this.Statement.statement M
 unfolding this.Code.routine largest
-accesses-spec 𝓤 𝓛 𝓜 𝓡 =
+accesses_spec 𝓤 𝓛 𝓜 𝓡 =
     passes_spec turn.Symbol.name 1 (lent w8 0 tt ∷ []) size (int w64 0) (λ ds p i. reach_to ds p.0 i) (λ s i d p. max s (reach d p.0 i))
     (λ ds p i. rw add-one refl) (λ ds p. (refl, lit< tt)) (λ ds p. record { read = λ t. lit t tt })
     𝓛 𝓜 𝓡 this.Code.env this.Key.name (this.Code.unfolded 𝓤 𝓛.H 𝓜 𝓡) (cited 𝓤 𝓛.H _ 𝓜 𝓡 this.Code.env look.Symbol.name look.Symbol.routine this.Code.calls-pass::to-pass (look.Met.met 𝓤 𝓛 𝓜 𝓡))

@@ -1,5 +1,5 @@
 -- `redraw::plan_bytes` meets its contract. Assumes nothing.
-use Rattle.ground.proofs.Names.{◌+◌, ◌-◌, ◌*◌, ◌≤◌, arith, ◌≡◌, sym, ◌∙◌, length, take, drop, length-drop, length-take-le, needs, ne_eqb}
+use Rattle.ground.proofs.Names.{◌+◌, ◌-◌, ◌*◌, ◌≤◌, arith, ◌≡◌, sym, ◌∙◌, length, take, drop, length-drop, length-take-le, rules, ne_eqb}
 use Rattle.wire.proofs.LineLaws.{bytes_fit}
 use Rattle.redraw.specs.PlanBytes.{bytes_number}
 use Rattle.redraw.proofs.BytesLaws.{bytes_served}
@@ -30,8 +30,8 @@ returns-2 c =
     let fit = bytes_fit words a.bytes.now a.n _ count s.2 c.before.before.write_bytes.ensures in
     (sym (zero_number t), rw (zero_number t) (rw w at fit))
 
-pub plan-bytes-spec : {M : Type 1} → Rattle.redraw.proofs.plan_bytes.Statement.statement M
-plan-bytes-spec =
+pub plan_bytes_spec : {M : Type 1} → Rattle.redraw.proofs.plan_bytes.Statement.statement M
+plan_bytes_spec =
     tie.close
-    (tie.spec (λ c κs. search needs) returns (λ c. omega (arith, served c)) (λ c. omega (arith, served c)) (λ c. omega (arith, served c)) (λ c. search needs)
-    (λ c. search needs) (λ c. omega (arith, served c)) (λ c κs. search needs) (λ c. search needs) returns-2)
+    (tie.spec (λ c κs. search rules) returns (λ c. omega (arith, served c)) (λ c. omega (arith, served c)) (λ c. omega (arith, served c)) (λ c. search rules)
+    (λ c. search rules) (λ c. omega (arith, served c)) (λ c κs. search rules) (λ c. search rules) returns-2)

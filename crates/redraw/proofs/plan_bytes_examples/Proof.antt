@@ -2,5 +2,5 @@
 use Rattle.redraw.proofs.BytesLaws.{bytes_examples}
 use Rattle.redraw.proofs.plan_bytes_examples.Tie as tie
 
-pub plan-bytes-examples-spec : {M : Type 1} → Rattle.redraw.proofs.plan_bytes_examples.Statement.statement M
-plan-bytes-examples-spec = tie.close (tie.spec (λ c. bytes_examples))
+pub plan_bytes_examples_spec : {M : Type 1} → Rattle.redraw.proofs.plan_bytes_examples.Statement.statement M
+plan_bytes_examples_spec = tie.close (tie.spec (λ c. bytes_examples))

@@ -2,5 +2,5 @@
 use Rattle.redraw.proofs.OnWire.{on_wire}
 use Rattle.redraw.proofs.sent.Tie as tie
 
-pub sent-spec : {M : Type 1} → Rattle.redraw.proofs.sent.Statement.statement M
-sent-spec = tie.close (tie.spec (λ c. on_wire))
+pub sent_spec : {M : Type 1} → Rattle.redraw.proofs.sent.Statement.statement M
+sent_spec = tie.close (tie.spec (λ c. on_wire))

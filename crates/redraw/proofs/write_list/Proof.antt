@@ -139,9 +139,9 @@ module _ {M : Type 1} {𝓤 : Ura M} (𝓛 : Logic 𝓤) (mem : Memory → SProp
       move ! (4 ∷ []) $ split ! $ move ! (5 ∷ 1 ∷ []) $ join ! $ move ! (1 ∷ 0 ∷ []) $ join ! $ move ! (1 ∷ 0 ∷ []) $ join ! $ frame ! $ fjoin ! $ pure_i ! (shr_slice_at S (ref γ₁ (vs m)) (shr_slice_vals (ref γ₁ ws))) (tt, (tt, tt)) (ap (λ (j : ℕ). slice_val (b₁, o₁) j ∷ []) (sym (long m)), subst (Room S) (sym (long m)) room₂) $
       fjoin ! $ nothing ! $ nothing ! $ fjoin ! $ move ! (1 ∷ 0 ∷ []) $ fjoin ! $ nothing ! $ fjoin ! $ nothing ! $ fjoin ! $ nothing ! $ fjoin ! $ frame ! $ feq_i ! (List Val) (vunit ∷ []) (vunit ∷ []) refl $ done !))))
 
-pub write-list-spec : {M : Type 1} → write-list.Statement.statement M
+pub write_list_spec : {M : Type 1} → write-list.Statement.statement M
 unfolding write-list.Code.routine tables_of
-write-list-spec 𝓤 𝓛 𝓜 𝓡 =
+write_list_spec 𝓤 𝓛 𝓜 𝓡 =
     proves 𝓛 𝓜 𝓡 write-list.Code.env write-list.ended stayed (write-list.clauses 𝓛 𝓜.mem 𝓡.run) (Goes-dropped 𝓛 3 (shr_slice_of (0 ∷ []) tt (plain (λ _. R))) yes (λ κs x f. refl), (Goes-dropped 𝓛 3 (plain (λ _. byte.row)) yes (λ κs x f. refl), (Goes-dropped 𝓛 3 (shr_slice_of (1 ∷ []) tt (plain (λ _. byte.row))) yes (λ κs x f. refl), (Goes-slice 𝓛 3 2 tt (plain (λ _. S)), (Goes-dropped 𝓛 3 (plain (λ _. size.row)) yes (λ κs x f. refl), tt)))))
     write-list.Key.name write-list.Code.function (write-list.Code.unfolded 𝓤 𝓛.H 𝓜 𝓡) (λ κs. (shr_slice_vals, ((λ n. byte.val n ∷ []), (shr_slice_vals, (mut_slice_vals, ((λ n. size.val n ∷ []), tt)))))) (λ κs. (shr_slice_Tells (named 0) κs.0 R, (byte.tells, (shr_slice_Tells (named 1) κs.1.0 byte.row, (mut_slice_Tells (named 2) κs.1.1.0 S, (size.tells, tt))))))
     (λ κs qs bounds a g are. via 𝓤 _ (fst∗ 𝓤 _ (emp 𝓤)) (walk 𝓛 𝓜.mem 𝓡.run κs.0 κs.1.0 κs.1.1.0 qs.0 qs.1.0 qs.1.1.0 a.0.ref_ptr.0 a.0.ref_ptr.1 a.0.ghost_name a.0.now a.1.0 a.1.1.0 a.1.1.1.0.ref_ptr.0 a.1.1.1.0.ref_ptr.1 a.1.1.1.0.ghost_name a.1.1.1.0.now a.1.1.1.1.0 (tables_of 𝓤 𝓛.H 𝓜 (tables 𝓤 𝓛.H 𝓜 𝓡 write-list.Code.env))

@@ -2,5 +2,5 @@
 use Rattle.refusals.proofs.SizeLaws.{sizes}
 use Rattle.refusals.proofs.sizes.Tie as tie
 
-pub sizes-spec : {M : Type 1} → Rattle.refusals.proofs.sizes.Statement.statement M
-sizes-spec = tie.close (tie.spec (λ c. sizes))
+pub sizes_spec : {M : Type 1} → Rattle.refusals.proofs.sizes.Statement.statement M
+sizes_spec = tie.close (tie.spec (λ c. sizes))

@@ -1,5 +1,5 @@
 -- `report_lines::total_line` meets its contract. Assumes nothing.
-use Rattle.ground.proofs.Names.{needs}
+use Rattle.ground.proofs.Names.{rules}
 use Rattle.report_lines.proofs.LineLaws.{line_written}
 use Rattle.report_lines.proofs.total_line.Tie as tie
 
@@ -14,8 +14,8 @@ returns c =
     c.before.before.before.before.before.before.before.decimal3.ensures
     c.before.before.put3.ensures
 
-pub total-line-spec : {M : Type 1} → Rattle.report_lines.proofs.total_line.Statement.statement M
-total-line-spec =
+pub total_line_spec : {M : Type 1} → Rattle.report_lines.proofs.total_line.Statement.statement M
+total_line_spec =
     tie.close
-    (tie.spec (λ c κs. search needs) (λ c. search needs) (λ c κs. search needs) (λ c κs. search needs) (λ c. search needs) (λ c κs. search needs)
-    (λ c κs. search needs) (λ c. search needs) (λ c κs. search needs) (λ c. search needs) returns)
+    (tie.spec (λ c κs. search rules) (λ c. search rules) (λ c κs. search rules) (λ c κs. search rules) (λ c. search rules) (λ c κs. search rules)
+    (λ c κs. search rules) (λ c. search rules) (λ c κs. search rules) (λ c. search rules) returns)

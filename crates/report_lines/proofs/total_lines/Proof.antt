@@ -1,5 +1,5 @@
 -- `report_lines::total_lines` meets its contract. Assumes nothing.
-use Rattle.ground.proofs.Names.{◌+◌, ◌-◌, ◌/◌, ◌%◌, arith, ◌≡◌, get_or, needs}
+use Rattle.ground.proofs.Names.{◌+◌, ◌-◌, ◌/◌, ◌%◌, arith, ◌≡◌, get_or, rules}
 use Rattle.lit_time.specs.Report.{total_line}
 use Rattle.report_lines.proofs.LineLaws.{Lines, lines_none, lines_more}
 use Rattle.report_lines.proofs.total_lines.Tie as tie
@@ -28,8 +28,8 @@ returns c =
     let e : l.i ≡ c.before.before.before.before.args.count = omega (arith, l.invariant.within) in
     (rw e at l.invariant.written, omega (arith, l.invariant.space, l.invariant.within, c.before.before.before.before.requires.2))
 
-pub total-lines-spec : {M : Type 1} → Rattle.report_lines.proofs.total_lines.Statement.statement M
-total-lines-spec =
+pub total_lines_spec : {M : Type 1} → Rattle.report_lines.proofs.total_lines.Statement.statement M
+total_lines_spec =
     tie.close
-    (tie.spec invariant-loop decreases-loop (λ c. lines_none _ _ _) (λ c. search needs) (λ c. search needs) (λ c. search needs) total-line-requires (λ c. search needs) (λ c. search needs) loop-again (λ c. c.before.loop.invariant.same_room)
+    (tie.spec invariant-loop decreases-loop (λ c. lines_none _ _ _) (λ c. search rules) (λ c. search rules) (λ c. search rules) total-line-requires (λ c. search rules) (λ c. search rules) loop-again (λ c. c.before.loop.invariant.same_room)
     returns)

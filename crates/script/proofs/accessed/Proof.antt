@@ -1,5 +1,5 @@
 -- `script::accessed` meets its contract. Assumes nothing.
-use Rattle.ground.proofs.Names.{◌≤◌, arith, sym, ap, ◌∙◌, length-take-le, length, drop, length-drop, needs}
+use Rattle.ground.proofs.Names.{◌≤◌, arith, sym, ap, ◌∙◌, length-take-le, length, drop, length-drop, rules}
 use Rattle.refusals.specs.Refusals.{bytes_for}
 use Rattle.calls.specs.Calls.{access}
 use Rattle.row.specs.declared.Done.{Done}
@@ -48,8 +48,8 @@ returns-2 c =
     let d = c.before.before.before.before.before.before.before.access.ensures in
     refused a.row (access (word a.body.now 0) (drop 2 a.body.now) answer_room) _ a.at _ _ c.before.before.before.before.before.before.before.access.result (rw (w, to_end 2 a.body.now) at d.0) _ (omega arith) c.before.before.before.before.if1.false c.before.before.refusal-line.ensures
 
-pub accessed-spec : {M : Type 1} → Rattle.script.proofs.accessed.Statement.statement M
-accessed-spec =
+pub accessed_spec : {M : Type 1} → Rattle.script.proofs.accessed.Statement.statement M
+accessed_spec =
     tie.close
-    (tie.spec (λ c κs. search needs) (λ c. search needs) (λ c. search needs) (λ c. search needs) (λ c. search needs) (λ c κs. search needs) (λ c. search needs)
-    array-share-prefix-room slice-aggregate-answer-line answer-line-requires (λ c. search needs) returns refusal-line-requires (λ c. search needs) returns-2)
+    (tie.spec (λ c κs. search rules) (λ c. search rules) (λ c. search rules) (λ c. search rules) (λ c. search rules) (λ c κs. search rules) (λ c. search rules)
+    array-share-prefix-room slice-aggregate-answer-line answer-line-requires (λ c. search rules) returns refusal-line-requires (λ c. search rules) returns-2)

@@ -1,5 +1,5 @@
 -- `script::given` meets its contract. Assumes nothing.
-use Rattle.ground.proofs.Names.{ℕ, arith, true, List, [], ◌≡◌, refl, eqb, if, eq-eqb, ne_eqb, needs}
+use Rattle.ground.proofs.Names.{ℕ, arith, true, List, [], ◌≡◌, refl, eqb, if, eq-eqb, ne_eqb, rules}
 use Rattle.printed.specs.Lines.{refusal_line}
 use Rattle.script.specs.Progress.{Written}
 use Rattle.script.proofs.RoomLaws.{decimal_short}
@@ -18,5 +18,5 @@ refusal-line-requires c κs = omega (arith, decimal_short c.before.before.before
 returns-2 : tie.Need-returns-2
 returns-2 c = record { row_after = refl; line = rw (ne_eqb _ 0 c.before.before.before.before.if1.false) c.before.before.refusal-line.ensures; short = omega (arith, c.before.before.refusal-line.ensures.place, decimal_short c.before.before.before.before.before.before.before.args.done.number) }
 
-pub given-spec : {M : Type 1} → Rattle.script.proofs.given.Statement.statement M
-given-spec = tie.close (tie.spec returns refusal-line-requires (λ c. search needs) returns-2)
+pub given_spec : {M : Type 1} → Rattle.script.proofs.given.Statement.statement M
+given_spec = tie.close (tie.spec returns refusal-line-requires (λ c. search rules) returns-2)

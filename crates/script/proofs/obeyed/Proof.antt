@@ -1,5 +1,5 @@
 -- `script::obeyed` meets its contract. Assumes nothing.
-use Rattle.ground.proofs.Names.{arith, length, leb-true, needs}
+use Rattle.ground.proofs.Names.{arith, length, leb-true, rules}
 use Rattle.script.proofs.FormatLaws.{show_length, show_call}
 use Rattle.script.proofs.RunLaws.{given_obeyed}
 use Rattle.script.proofs.obeyed.Tie as tie
@@ -8,7 +8,7 @@ accessed-requires : tie.Need-accessed-requires
 accessed-requires c κs =
     let a = c.before.before.before.before.before.args in
     let p = c.before.before.before.before.before.requires in
-    (leb-true 2 (length a.body.now) (rw c.before.match.keys1 at p.0), search needs)
+    (leb-true 2 (length a.body.now) (rw c.before.match.keys1 at p.0), search rules)
 
 shown-requires : tie.Need-shown-requires
 shown-requires c κs =
@@ -44,11 +44,11 @@ returns-5 c =
     rw (show_call a.kind a.body.now m.0.0.0.1 m.0.0.1 m.0.1 m.1, show_length a.kind (length a.body.now) p.0 p.1 m.0.0.0.1 m.0.0.1 m.0.1 m.1)
     c.before.before.shown.ensures
 
-pub obeyed-spec : {M : Type 1} → Rattle.script.proofs.obeyed.Statement.statement M
-obeyed-spec =
+pub obeyed_spec : {M : Type 1} → Rattle.script.proofs.obeyed.Statement.statement M
+obeyed_spec =
     tie.close
-    (tie.spec accessed-requires (λ c κs. search needs) (λ c. search needs) (λ c κs. search needs) (λ c κs. search needs) (λ c κs. search needs)
-    (λ c κs. search needs) (λ c κs. search needs) (λ c κs. search needs) (λ c κs. search needs) (λ c. search needs) (λ c κs. search needs) (λ c. search needs)
-    (λ c κs. search needs) (λ c κs. search needs) (λ c κs. search needs) (λ c. search needs) (λ c κs. search needs) (λ c. search needs) (λ c κs. search needs)
-    (λ c. search needs) (λ c. search needs) (λ c κs. search needs) (λ c κs. search needs) shown-requires (λ c. search needs) returns (λ c. search needs)
-    returns-2 (λ c. search needs) returns-3 (λ c. search needs) returns-4 (λ c. search needs) returns-5)
+    (tie.spec accessed-requires (λ c κs. search rules) (λ c. search rules) (λ c κs. search rules) (λ c κs. search rules) (λ c κs. search rules)
+    (λ c κs. search rules) (λ c κs. search rules) (λ c κs. search rules) (λ c κs. search rules) (λ c. search rules) (λ c κs. search rules) (λ c. search rules)
+    (λ c κs. search rules) (λ c κs. search rules) (λ c κs. search rules) (λ c. search rules) (λ c κs. search rules) (λ c. search rules) (λ c κs. search rules)
+    (λ c. search rules) (λ c. search rules) (λ c κs. search rules) (λ c κs. search rules) shown-requires (λ c. search rules) returns (λ c. search rules)
+    returns-2 (λ c. search rules) returns-3 (λ c. search rules) returns-4 (λ c. search rules) returns-5)

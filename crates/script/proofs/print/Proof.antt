@@ -1,5 +1,5 @@
 -- `script::print` meets its contract. Assumes nothing.
-use Rattle.ground.proofs.Names.{◌<◌, arith, ltb, ltb-true, needs, and_right}
+use Rattle.ground.proofs.Names.{◌<◌, arith, ltb, ltb-true, rules, and_right}
 use Rattle.script.proofs.RoomLaws.{written_length, both_written_lem, decimal_short}
 use Rattle.script.proofs.StartLaws.{prints_lines, prints_refusal}
 use Rattle.script.proofs.print.Tie as tie
@@ -26,8 +26,8 @@ returns-2 c =
     let v = c.before.before.refusal-line.ensures in
     (rw (prints_refusal _ _ w c.before.before.before.before.if1.false) v, omega (arith, v.place, c.before.before.before.before.before.before.before.before.requires.1))
 
-pub print-spec : {M : Type 1} → Rattle.script.proofs.print.Statement.statement M
-print-spec =
+pub print_spec : {M : Type 1} → Rattle.script.proofs.print.Statement.statement M
+print_spec =
     tie.close
-    (tie.spec (λ c κs. search needs) (λ c κs. search needs) (λ c κs. search needs) (λ c. search needs) run-records-requires (λ c. search needs) returns
-    (λ c κs. search needs) (λ c. search needs) returns-2)
+    (tie.spec (λ c κs. search rules) (λ c κs. search rules) (λ c κs. search rules) (λ c. search rules) run-records-requires (λ c. search rules) returns
+    (λ c κs. search rules) (λ c. search rules) returns-2)

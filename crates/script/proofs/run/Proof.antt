@@ -1,5 +1,5 @@
 -- `script::run` meets its contract. Assumes nothing.
-use Rattle.ground.proofs.Names.{arith, lt-ltb, le-ltb, needs}
+use Rattle.ground.proofs.Names.{arith, lt-ltb, le-ltb, rules}
 use Rattle.script.proofs.StartLaws.{too_little, ran, printed_long, printed_items}
 use Rattle.script.proofs.run.Tie as tie
 
@@ -33,4 +33,4 @@ returns-3 c =
 
 pub run_spec : {M : Type 1} → Rattle.script.proofs.run.Statement.statement M
 run_spec =
-    tie.close (tie.spec (λ c κs. search needs) returns refusal-line-requires (λ c. search needs) returns-2 print-requires (λ c. search needs) returns-3)
+    tie.close (tie.spec (λ c κs. search rules) returns refusal-line-requires (λ c. search rules) returns-2 print-requires (λ c. search rules) returns-3)

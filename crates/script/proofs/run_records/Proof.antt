@@ -1,5 +1,5 @@
 -- `script::run_records` meets its contract. Assumes nothing.
-use Rattle.ground.proofs.Names.{◌-◌, arith, ◌∙◌, length, needs}
+use Rattle.ground.proofs.Names.{◌-◌, arith, ◌∙◌, length, rules}
 use Rattle.script.proofs.RoomLaws.{written_length}
 use Rattle.script.proofs.LoopLaws.{Running, run_starts, found, part_fits, stops_malformed, stops_chain, goes_on, run_ends}
 use Rattle.script.proofs.run_records.Tie as tie
@@ -53,13 +53,13 @@ part-obeyed-start : tie.Need-slice-bounds-obeyed-start invariant-loop decreases-
 part-obeyed-start c =
     let a = c.before.before.before.before.before.before.before.before.before.before.before.args in
     let l = c.before.before.before.before.before.before.loop in
-    let f = (found a.script.now l.from _ c.before.before.before.record-size.ensures c.before.before.if1.false).five in search needs
+    let f = (found a.script.now l.from _ c.before.before.before.record-size.ensures c.before.before.if1.false).five in search rules
 
 part-obeyed-end : tie.Need-slice-bounds-obeyed-end invariant-loop decreases-loop
 part-obeyed-end c =
     let a = c.before.before.before.before.before.before.before.before.before.before.before.args in
     let l = c.before.before.before.before.before.before.loop in
-    let f = (found a.script.now l.from _ c.before.before.before.record-size.ensures c.before.before.if1.false).rest_whole in search needs
+    let f = (found a.script.now l.from _ c.before.before.before.record-size.ensures c.before.before.if1.false).rest_whole in search rules
 
 obeyed-requires : tie.Need-obeyed-requires invariant-loop decreases-loop
 obeyed-requires c κs =
@@ -72,7 +72,7 @@ add-from : tie.Need-overflow-add-from invariant-loop decreases-loop
 add-from c =
     let a = c.before.before.before.before.before.before.before.before.before.before.before.before.before.before.before.before.before.args in
     let l = c.before.before.before.before.before.before.before.before.before.before.before.before.loop in
-    let f = (found a.script.now l.from _ c.before.before.before.before.before.before.before.before.before.record-size.ensures c.before.before.before.before.before.before.before.before.if1.false).whole in search needs
+    let f = (found a.script.now l.from _ c.before.before.before.before.before.before.before.before.before.record-size.ensures c.before.before.before.before.before.before.before.before.if1.false).whole in search rules
 
 loop-less : tie.Need-loop-smaller invariant-loop decreases-loop
 loop-less c =
@@ -92,9 +92,9 @@ same-length-3 c = c.before.loop.invariant.same_room
 returns-3 : tie.Need-returns-3 invariant-loop decreases-loop
 returns-3 c = run_ends c.before.loop.invariant (omega arith)
 
-pub run-records-spec : {M : Type 1} → Rattle.script.proofs.run_records.Statement.statement M
-run-records-spec =
+pub run_records_spec : {M : Type 1} → Rattle.script.proofs.run_records.Statement.statement M
+run_records_spec =
     tie.close
-    (tie.spec invariant-loop decreases-loop (λ c κs. search needs) loop-holds sub-rest (λ c. search needs) (λ c. search needs) (λ c κs. search needs) refusal-line-requires
-    same_length returns (λ c κs. search needs) refusal-line-requires-2 same-length-2 returns-2 sub-obeyed part-obeyed-start part-obeyed-end obeyed-requires
+    (tie.spec invariant-loop decreases-loop (λ c κs. search rules) loop-holds sub-rest (λ c. search rules) (λ c. search rules) (λ c κs. search rules) refusal-line-requires
+    same_length returns (λ c κs. search rules) refusal-line-requires-2 same-length-2 returns-2 sub-obeyed part-obeyed-start part-obeyed-end obeyed-requires
     add-from loop-less loop-again same-length-3 returns-3)

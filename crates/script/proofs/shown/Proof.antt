@@ -1,5 +1,5 @@
 -- `script::shown` meets its contract. Assumes nothing.
-use Rattle.ground.proofs.Names.{arith, needs}
+use Rattle.ground.proofs.Names.{arith, rules}
 use Rattle.calls.specs.Calls.{segments}
 use Rattle.printed.specs.Format.{byte, test_table}
 use Rattle.script.proofs.RoomLaws.{decimal_short}
@@ -11,7 +11,7 @@ returns c =
     let a = c.before.before.before.before.before.before.before.before.before.before.before.before.args in
     let s = c.before.before.before.before.before.before.show in
     show_served a.row (byte a.body.now 0) (segments (byte a.body.now 1) test_table test_table) 7 a.at _ _ s.result _
-    (rw (c.before.before.before.before.before.before.before.before.byte.ensures, c.before.before.before.before.before.before.before.byte2.ensures, c.before.before.before.before.before.before.before.before.before.before.before.before.requires.0) at s.ensures) c.before.before.before.before.before.if1.true (search needs) (omega arith) c.before.before.show-line.ensures
+    (rw (c.before.before.before.before.before.before.before.before.byte.ensures, c.before.before.before.before.before.before.before.byte2.ensures, c.before.before.before.before.before.before.before.before.before.before.before.before.requires.0) at s.ensures) c.before.before.before.before.before.if1.true (search rules) (omega arith) c.before.before.show-line.ensures
 
 refusal-line-requires : tie.Need-refusal-line-requires
 refusal-line-requires c κs = omega (arith, decimal_short c.before.before.show.result.number)
@@ -23,8 +23,8 @@ returns-2 c =
     show_refused a.row (byte a.body.now 0) (segments (byte a.body.now 1) test_table test_table) 7 a.at _ _ s.result _
     (rw (c.before.before.before.before.before.before.before.byte.ensures, c.before.before.before.before.before.before.byte2.ensures, c.before.before.before.before.before.before.before.before.before.before.before.requires.0) at s.ensures) c.before.before.before.before.if1.false (omega arith) c.before.before.refusal-line.ensures
 
-pub shown-spec : {M : Type 1} → Rattle.script.proofs.shown.Statement.statement M
-shown-spec =
+pub shown_spec : {M : Type 1} → Rattle.script.proofs.shown.Statement.statement M
+shown_spec =
     tie.close
-    (tie.spec (λ c κs. search needs) (λ c. search needs) (λ c κs. search needs) (λ c. search needs) (λ c κs. search needs) (λ c κs. search needs)
-    (λ c. search needs) returns refusal-line-requires (λ c. search needs) returns-2)
+    (tie.spec (λ c κs. search rules) (λ c. search rules) (λ c κs. search rules) (λ c. search rules) (λ c κs. search rules) (λ c κs. search rules)
+    (λ c. search rules) returns refusal-line-requires (λ c. search rules) returns-2)

@@ -1,5 +1,5 @@
 -- `script::start_of` meets its contract. Assumes nothing.
-use Rattle.ground.proofs.Names.{arith, sym, ◌∙◌, needs}
+use Rattle.ground.proofs.Names.{arith, sym, ◌∙◌, rules}
 use Rattle.script.proofs.StartLaws.{starts_after, starts_at_call, starts_malformed}
 use Rattle.script.proofs.start_of.Tie as tie
 
@@ -12,6 +12,6 @@ returns-2 c = starts_at_call _ _ c.before.before.before.record-size.ensures c.be
 returns-3 : tie.Need-returns-3
 returns-3 c = starts_malformed _ _ c.before.record-size.ensures (omega arith)
 
-pub start-of-spec : {M : Type 1} → Rattle.script.proofs.start_of.Statement.statement M
-start-of-spec =
-    tie.close (tie.spec (λ c κs. search needs) (λ c κs. search needs) (λ c κs. search needs) (λ c. search needs) returns returns-2 returns-3)
+pub start_of_spec : {M : Type 1} → Rattle.script.proofs.start_of.Statement.statement M
+start_of_spec =
+    tie.close (tie.spec (λ c κs. search rules) (λ c κs. search rules) (λ c κs. search rules) (λ c. search rules) returns returns-2 returns-3)

@@ -1,5 +1,5 @@
 -- `script_records::access` meets its contract. Assumes nothing.
-use Rattle.ground.proofs.Names.{arith, ◌≡◌, [], drop, drop_of_length-le, needs}
+use Rattle.ground.proofs.Names.{arith, ◌≡◌, [], drop, drop_of_length-le, rules}
 use Rattle.script_records.proofs.RecordLaws.{to_end}
 use Rattle.script_records.proofs.access.Tie as tie
 
@@ -14,8 +14,8 @@ returns-2 c =
     let a = c.before.before.before.before.before.before.before.before.before.args in
     rw (c.before.before.before.before.before.before.word.ensures.0, to_end 2 a.body.now) at c.before.before.access2.ensures
 
-pub access-spec : {M : Type 1} → Rattle.script_records.proofs.access.Statement.statement M
-access-spec =
+pub access_spec : {M : Type 1} → Rattle.script_records.proofs.access.Statement.statement M
+access_spec =
     tie.close
-    (tie.spec (λ c κs. search needs) (λ c. search needs) (λ c κs. search needs) (λ c. search needs) returns (λ c. search needs) (λ c. search needs)
-    (λ c. search needs) (λ c κs. search needs) (λ c. search needs) returns-2)
+    (tie.spec (λ c κs. search rules) (λ c. search rules) (λ c κs. search rules) (λ c. search rules) returns (λ c. search rules) (λ c. search rules)
+    (λ c. search rules) (λ c κs. search rules) (λ c. search rules) returns-2)

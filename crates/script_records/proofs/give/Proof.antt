@@ -1,5 +1,5 @@
 -- `script_records::give` meets its contract. Assumes nothing.
-use Rattle.ground.proofs.Names.{ne_eqb, needs}
+use Rattle.ground.proofs.Names.{ne_eqb, rules}
 use Rattle.script_records.proofs.give.Tie as tie
 
 returns : tie.Need-returns
@@ -17,6 +17,6 @@ returns-3 c =
 pub give_spec : {M : Type 1} → Rattle.script_records.proofs.give.Statement.statement M
 give_spec =
     tie.close
-    (tie.spec (λ c κs. search needs) (λ c. search needs) (λ c κs. search needs) (λ c κs. search needs) (λ c κs. search needs) (λ c κs. search needs)
-    (λ c κs. search needs) (λ c κs. search needs) (λ c. search needs) (λ c κs. search needs) (λ c κs. search needs) (λ c κs. search needs) returns returns-2
+    (tie.spec (λ c κs. search rules) (λ c. search rules) (λ c κs. search rules) (λ c κs. search rules) (λ c κs. search rules) (λ c κs. search rules)
+    (λ c κs. search rules) (λ c κs. search rules) (λ c. search rules) (λ c κs. search rules) (λ c κs. search rules) (λ c κs. search rules) returns returns-2
     returns-3)

@@ -1,5 +1,5 @@
 -- `script_records::refusal_line` meets its contract. Assumes nothing.
-use Rattle.ground.proofs.Names.{◌≤◌, arith, ◌≡◌, sym, refl, length, take, length-take-le, needs}
+use Rattle.ground.proofs.Names.{◌≤◌, arith, ◌≡◌, sym, refl, length, take, length-take-le, rules}
 use Rattle.text.proofs.Room.{written, written_length}
 use Rattle.text.proofs.Digits.{decimal_short}
 use Rattle.text.specs.Text.{refusal_line}
@@ -19,8 +19,8 @@ module _ (c : tie.After-put2) where
 returns : tie.Need-returns
 returns c = rw (made c.before.before.before.before.before.before).0 at c.before.before.put3.ensures
 
-pub refusal-line-spec : {M : Type 1} → Rattle.script_records.proofs.refusal_line.Statement.statement M
-refusal-line-spec =
+pub refusal_line_spec : {M : Type 1} → Rattle.script_records.proofs.refusal_line.Statement.statement M
+refusal_line_spec =
     tie.close
-    (tie.spec (λ c. search needs) (λ c. search needs) (λ c κs. search needs) (λ c. search needs) (λ c κs. search needs) (λ c. search needs) (λ c. search needs)
-    (λ c κs. search needs) (λ c. (made c.before).1) (λ c. sym (length-take-le _ _ (made c.before.before).1)) (λ c κs. search needs) (λ c. search needs) returns)
+    (tie.spec (λ c. search rules) (λ c. search rules) (λ c κs. search rules) (λ c. search rules) (λ c κs. search rules) (λ c. search rules) (λ c. search rules)
+    (λ c κs. search rules) (λ c. (made c.before).1) (λ c. sym (length-take-le _ _ (made c.before.before).1)) (λ c κs. search rules) (λ c. search rules) returns)

@@ -1,5 +1,5 @@
 -- `shown_pins::bit_at` meets its contract. Assumes nothing.
-use Rattle.ground.proofs.Names.{ℕ, ◌/◌, ◌^◌, ◌<◌, ◌≤◌, arith, div-eq_of_lt, pow_mono, false, ◌≡◌, bit, sym, needs}
+use Rattle.ground.proofs.Names.{ℕ, ◌/◌, ◌^◌, ◌<◌, ◌≤◌, arith, div-eq_of_lt, pow_mono, false, ◌≡◌, bit, sym, rules}
 use Rattle.shown_pins.proofs.bit_at.Tie as tie
 
 -- 32 bits have no bit 32
@@ -12,5 +12,5 @@ past-bits v k h g =
 returns-2 : tie.Need-returns-2
 returns-2 c = sym (past-bits c.before.args.v c.before.args.k (omega arith) c.if1.false)
 
-pub bit-at-spec : {M : Type 1} → Rattle.shown_pins.proofs.bit_at.Statement.statement M
-bit-at-spec = tie.close (tie.spec (λ c. search needs) (λ c. search needs) (λ c. search needs) returns-2)
+pub bit_at_spec : {M : Type 1} → Rattle.shown_pins.proofs.bit_at.Statement.statement M
+bit_at_spec = tie.close (tie.spec (λ c. search rules) (λ c. search rules) (λ c. search rules) returns-2)

@@ -1,5 +1,5 @@
 -- `shown_pins::display_by` meets its contract. Assumes nothing.
-use Rattle.ground.proofs.Names.{sym, needs}
+use Rattle.ground.proofs.Names.{sym, rules}
 use Rattle.shown_pins.proofs.display_by.Tie as tie
 
 returns : tie.Need-returns
@@ -11,6 +11,6 @@ returns-2 c = simp (sym c.before.before.before.bit_at.ensures, sym c.before.bit-
 returns-3 : tie.Need-returns-3
 returns-3 c = rw (← c.before.before.before.bit_at.ensures, ← c.before.bit-at2.ensures, c.before.before.if1.false, c.if2.false)
 
-pub display-by-spec : {M : Type 1} → Rattle.shown_pins.proofs.display_by.Statement.statement M
-display-by-spec =
-    tie.close (tie.spec (λ c κs. search needs) (λ c κs. search needs) returns returns-2 returns-3)
+pub display_by_spec : {M : Type 1} → Rattle.shown_pins.proofs.display_by.Statement.statement M
+display_by_spec =
+    tie.close (tie.spec (λ c κs. search rules) (λ c κs. search rules) returns returns-2 returns-3)

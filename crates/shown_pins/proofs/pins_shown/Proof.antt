@@ -1,5 +1,5 @@
 -- `shown_pins::pins_shown` meets its contract. Assumes nothing.
-use Rattle.ground.proofs.Names.{sym, ◌∙◌, arith, tabulate, needs}
+use Rattle.ground.proofs.Names.{sym, ◌∙◌, arith, tabulate, rules}
 use Rattle.shown_pins.proofs.PinsLaws.{pins_dark, pins_lit}
 use Rattle.shown_pins.proofs.pins_shown.Tie as tie
 
@@ -34,9 +34,9 @@ returns-2 c =
     (lit.shown-segments.ensures ∙ rw (byte, byte_a, display, lit.before.before.bit_at.ensures))
     c.before.packed-row.ensures
 
-pub pins-shown-spec : {M : Type 1} → Rattle.shown_pins.proofs.pins_shown.Statement.statement M
-pins-shown-spec =
+pub pins_shown_spec : {M : Type 1} → Rattle.shown_pins.proofs.pins_shown.Statement.statement M
+pins_shown_spec =
     tie.close
-    (tie.spec (λ c κs. search needs) returns (λ c. search needs) (λ c κs. search needs) (λ c κs. search needs) (λ c. search needs) (λ c κs. search needs)
-    (λ c κs. search needs) (λ c. search needs) (λ c κs. search needs) (λ c κs. search needs) (λ c κs. search needs) (λ c. search needs) (λ c κs. search needs)
+    (tie.spec (λ c κs. search rules) returns (λ c. search rules) (λ c κs. search rules) (λ c κs. search rules) (λ c. search rules) (λ c κs. search rules)
+    (λ c κs. search rules) (λ c. search rules) (λ c κs. search rules) (λ c κs. search rules) (λ c κs. search rules) (λ c. search rules) (λ c κs. search rules)
     returns-2)

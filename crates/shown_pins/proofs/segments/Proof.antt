@@ -1,5 +1,5 @@
 -- `shown_pins::segments` meets its contract. Assumes nothing.
-use Rattle.ground.proofs.Names.{tabulate, ne_eqb, sym, ◌∙◌, needs}
+use Rattle.ground.proofs.Names.{tabulate, ne_eqb, sym, ◌∙◌, rules}
 use Rattle.refusals.proofs.RefusalLaws.{segments_served}
 use Rattle.shown_pins.proofs.segments.Tie as tie
 
@@ -15,5 +15,5 @@ returns-2 : tie.Need-returns-2
 unfolding tabulate
 returns-2 c = rw (← c.before.segments-refusal.ensures, ne_eqb _ _ c.if1.false)
 
-pub segments-spec : {M : Type 1} → Rattle.shown_pins.proofs.segments.Statement.statement M
-segments-spec = tie.close (tie.spec (λ c κs. search needs) pins-shown-requires returns returns-2)
+pub segments_spec : {M : Type 1} → Rattle.shown_pins.proofs.segments.Statement.statement M
+segments_spec = tie.close (tie.spec (λ c κs. search rules) pins-shown-requires returns returns-2)

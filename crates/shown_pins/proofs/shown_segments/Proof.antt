@@ -1,5 +1,5 @@
 -- `shown_pins::shown_segments` meets its contract. Assumes nothing.
-use Rattle.ground.proofs.Names.{needs}
+use Rattle.ground.proofs.Names.{rules}
 use Rattle.shown_pins.proofs.shown_segments.Tie as tie
 
 returns-2 : tie.Need-returns-2
@@ -11,8 +11,8 @@ returns-3 c = simp (c.before.before.before.if1.false, c.before.enum-told2.given.
 returns-4 : tie.Need-returns-4
 returns-4 c = simp (c.before.before.before.if1.false, c.before.enum-told3.given.1, c.pair-segments.ensures)
 
-pub shown-segments-spec : {M : Type 1} → Rattle.shown_pins.proofs.shown_segments.Statement.statement M
-shown-segments-spec =
+pub shown_segments_spec : {M : Type 1} → Rattle.shown_pins.proofs.shown_segments.Statement.statement M
+shown_segments_spec =
     tie.close
-    (tie.spec (λ c. search needs) (λ c. search needs) (λ c κs. search needs) (λ c. search needs) (λ c κs. search needs) (λ c. search needs)
-    (λ c κs. search needs) returns-2 returns-3 returns-4)
+    (tie.spec (λ c. search rules) (λ c. search rules) (λ c κs. search rules) (λ c. search rules) (λ c κs. search rules) (λ c. search rules)
+    (λ c κs. search rules) returns-2 returns-3 returns-4)

@@ -13,5 +13,5 @@ returns c = rw (c.looked.ensures, c.before.if1.true)
 returns-2 : tie.Need-returns-2
 returns-2 c = rw c.if1.false
 
-pub look-back-spec : {M : Type 1} → Rattle.stopping_word.proofs.look_back.Statement.statement M
-look-back-spec = tie.close (tie.spec looked-requires returns returns-2)
+pub look_back_spec : {M : Type 1} → Rattle.stopping_word.proofs.look_back.Statement.statement M
+look_back_spec = tie.close (tie.spec looked-requires returns returns-2)

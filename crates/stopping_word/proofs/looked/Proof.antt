@@ -1,5 +1,5 @@
 -- `stopping_word::looked` meets its contract: the place that the masks find is the stopping place, and it decides the byte. Assumes nothing.
-use Rattle.ground.proofs.Names.{◌≤◌, arith, ◌≡◌, sym, ◌∙◌, length, needs}
+use Rattle.ground.proofs.Names.{◌≤◌, arith, ◌≡◌, sym, ◌∙◌, length, rules}
 use Rattle.look_back.specs.LookBack.{plane_numbered}
 use Rattle.stopping_word.specs.Masks.{stops_under}
 use Rattle.look_back.proofs.PlaceLaws.{place_le}
@@ -45,8 +45,8 @@ returns-2 c =
     let none : 0 ≡ found.stopping-place.result = omega arith in
     c.held.ensures ∙ looked_by p a.digit s.requires a.words.now a.device (sized_planes a.device _ s.well_formed.0) 0 (none ∙ e)
 
-pub looked-spec : {M : Type 1} → Rattle.stopping_word.proofs.looked.Statement.statement M
-looked-spec =
+pub looked_spec : {M : Type 1} → Rattle.stopping_word.proofs.looked.Statement.statement M
+looked_spec =
     tie.close
-    (tie.spec (λ c κs. search needs) (λ c κs. search needs) (λ c κs. search needs) (λ c. search needs) mul-left-by shared-slice-read-left-by
-    (λ c κs. search needs) (λ c κs. search needs) returns returns-2)
+    (tie.spec (λ c κs. search rules) (λ c κs. search rules) (λ c κs. search rules) (λ c. search rules) mul-left-by shared-slice-read-left-by
+    (λ c κs. search rules) (λ c κs. search rules) returns returns-2)

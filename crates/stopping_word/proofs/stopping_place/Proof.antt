@@ -1,6 +1,6 @@
 -- `stopping_word::stopping_place` meets its contract. The invariant: no word after the first k stops, so the place is that of these. A turn reads the
 -- last of them, and the one before it where the last doesn't stop: none before the stopping place. Assumes nothing.
-use Rattle.ground.proofs.Names.{◌-◌, ◌≤◌, arith, ◌≡◌, sym, ap, ◌∙◌, length, take, take-length, needs}
+use Rattle.ground.proofs.Names.{◌-◌, ◌≤◌, arith, ◌≡◌, sym, ap, ◌∙◌, length, take, take-length, rules}
 use Rattle.look_back.specs.Stops.{last_place}
 use Rattle.stopping_word.specs.Masks.{stops_under}
 use Rattle.look_back.proofs.PlaceLaws.{stops_at, goes_on, no_words}
@@ -68,9 +68,9 @@ returns-5 c =
     let l = c.before.before.loop in
     sym (l.invariant.1 ∙ no_words (stops_under a.mask a.pattern) a.words.now l.k (omega (arith, c.if3.false)))
 
-pub stopping-place-spec : {M : Type 1} → Rattle.stopping_word.proofs.stopping_place.Statement.statement M
-stopping-place-spec =
+pub stopping_place_spec : {M : Type 1} → Rattle.stopping_word.proofs.stopping_place.Statement.statement M
+stopping_place_spec =
     tie.close
-    (tie.spec invariant-loop decreases-loop loop-holds (λ c. omega arith) (λ c. omega arith) (λ c. omega arith) (λ c κs. search needs) returns (λ c. omega arith)
-    (λ c. omega arith) (λ c. omega arith) (λ c κs. search needs) (λ c. omega arith) returns-2 (λ c. omega arith) (λ c. omega arith) loop-again
-    (λ c. omega arith) (λ c κs. search needs) returns-3 returns-4 returns-5)
+    (tie.spec invariant-loop decreases-loop loop-holds (λ c. omega arith) (λ c. omega arith) (λ c. omega arith) (λ c κs. search rules) returns (λ c. omega arith)
+    (λ c. omega arith) (λ c. omega arith) (λ c κs. search rules) (λ c. omega arith) returns-2 (λ c. omega arith) (λ c. omega arith) loop-again
+    (λ c. omega arith) (λ c κs. search rules) returns-3 returns-4 returns-5)

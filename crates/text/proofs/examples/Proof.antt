@@ -2,5 +2,5 @@
 use Rattle.text.proofs.Bench.{examples}
 use Rattle.text.proofs.examples.Tie as tie
 
-pub examples-spec : {M : Type 1} → Rattle.text.proofs.examples.Statement.statement M
-examples-spec = tie.close (tie.spec (λ c. examples))
+pub examples_spec : {M : Type 1} → Rattle.text.proofs.examples.Statement.statement M
+examples_spec = tie.close (tie.spec (λ c. examples))

@@ -1,5 +1,5 @@
 -- `text::put` meets its contract. Assumes nothing.
-use Rattle.ground.proofs.Names.{◌-◌, arith, [], ◌∷◌, refl, length, needs}
+use Rattle.ground.proofs.Names.{◌-◌, arith, [], ◌∷◌, refl, length, rules}
 use Rattle.text.proofs.Room.{put_there, left_out}
 use Rattle.text.proofs.Texts.{Texts, texts_start, texts_more, texts_all, each_self}
 use Rattle.text.proofs.put.Tie as tie
@@ -24,5 +24,5 @@ returns-3 c =
 pub put_spec : {M : Type 1} → Rattle.text.proofs.put.Statement.statement M
 put_spec =
     tie.close
-    (tie.spec invariant-loop decreases-loop returns (λ c. search needs) returns-2 (λ c. texts_start) (λ c. omega arith) (λ c. omega arith) (λ c. omega arith)
+    (tie.spec invariant-loop decreases-loop returns (λ c. search rules) returns-2 (λ c. texts_start) (λ c. omega arith) (λ c. omega arith) (λ c. omega arith)
     (λ c. omega arith) (λ c. omega arith) (λ c. texts_more _ c.before.before.loop.invariant (omega arith) refl refl) (λ c. c.before.loop.invariant.size) returns-3)

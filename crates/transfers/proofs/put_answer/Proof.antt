@@ -1,5 +1,5 @@
 -- `transfers::put_answer` meets its contract. Assumes nothing.
-use Rattle.ground.proofs.Names.{tests, needs}
+use Rattle.ground.proofs.Names.{tests, rules}
 use Rattle.transfers.proofs.put_answer.Tie as tie
 
 returns : tie.Need-returns
@@ -20,5 +20,5 @@ returns-5 c = simp c.answered4.ensures (search tests)
 returns-6 : tie.Need-returns-6
 returns-6 c = simp c.answered5.ensures (search tests)
 
-pub put-answer-spec : {M : Type 1} → Rattle.transfers.proofs.put_answer.Statement.statement M
-put-answer-spec = tie.close (tie.spec (λ c κs. search needs) returns (λ c κs. search needs) returns-2 (λ c κs. search needs) returns-3 (λ c κs. search needs) returns-4 (λ c κs. search needs) returns-5 (λ c κs. search needs) returns-6)
+pub put_answer_spec : {M : Type 1} → Rattle.transfers.proofs.put_answer.Statement.statement M
+put_answer_spec = tie.close (tie.spec (λ c κs. search rules) returns (λ c κs. search rules) returns-2 (λ c κs. search rules) returns-3 (λ c κs. search rules) returns-4 (λ c κs. search rules) returns-5 (λ c κs. search rules) returns-6)

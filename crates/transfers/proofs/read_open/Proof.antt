@@ -1,5 +1,5 @@
 -- `transfers::read_open` meets its contract. Assumes nothing.
-use Rattle.ground.proofs.Names.{tests, needs}
+use Rattle.ground.proofs.Names.{tests, rules}
 use Rattle.transfers.proofs.read_open.Tie as tie
 
 returns : tie.Need-returns
@@ -11,5 +11,5 @@ returns-2 c = simp c.answered2.ensures (search tests)
 returns-3 : tie.Need-returns-3
 returns-3 c = simp (c.before.sent-data.ensures, c.answered3.ensures) (search tests)
 
-pub read-open-spec : {M : Type 1} → Rattle.transfers.proofs.read_open.Statement.statement M
-read-open-spec = tie.close (tie.spec (λ c κs. search needs) returns (λ c κs. search needs) returns-2 (λ c κs. search needs) (λ c κs. search needs) returns-3)
+pub read_open_spec : {M : Type 1} → Rattle.transfers.proofs.read_open.Statement.statement M
+read_open_spec = tie.close (tie.spec (λ c κs. search rules) returns (λ c κs. search rules) returns-2 (λ c κs. search rules) (λ c κs. search rules) returns-3)

@@ -8,5 +8,5 @@ returns c = search tests
 returns-2 : tie.Need-returns-2
 returns-2 c = search tests
 
-pub unless-14-spec : {M : Type 1} → Rattle.transfers.proofs.unless_14.Statement.statement M
-unless-14-spec = tie.close (tie.spec returns returns-2)
+pub unless_14_spec : {M : Type 1} → Rattle.transfers.proofs.unless_14.Statement.statement M
+unless_14_spec = tie.close (tie.spec returns returns-2)

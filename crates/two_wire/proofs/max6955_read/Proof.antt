@@ -11,9 +11,9 @@ use Rattle.transfers.proofs.read_open as answer
 use Rattle.shapes.proofs.Names.{refl, [], bytes_spec}
 use Rattle.two_wire.proofs.max6955_read as this
 
-pub max6955-read-spec : {M : Type 1} → this.Statement.statement M
+pub max6955_read_spec : {M : Type 1} → this.Statement.statement M
 unfolding this.Code.routine
-max6955-read-spec =
+max6955_read_spec =
     bytes_spec free.Symbol.name work.Symbol.name answer.Symbol.name 0 [] (λ p. get)
     (λ early n β σ p. read_free early n β σ) (λ ds β σ p. read_free_lem ds β σ)
     (λ d β p. asked (use_at β.phase) d) (λ d β p. read_open d β) (λ ds β σ p. read_open_lem ds β σ)

@@ -7,7 +7,7 @@ use Rattle.transfers.proofs.start_answer as answer
 use Rattle.shapes.proofs.Names.{refl, moves_spec}
 use Rattle.two_wire.proofs.max6955_start as this
 
-pub max6955-start-spec : {M : Type 1} → this.Statement.statement M
+pub max6955_start_spec : {M : Type 1} → this.Statement.statement M
 unfolding this.Code.routine
-max6955-start-spec =
+max6955_start_spec =
     moves_spec answer.Symbol.name (bus_of slave) start starts this.Code.env this.Key.name this.Code.unfolded refl answer.Met.met

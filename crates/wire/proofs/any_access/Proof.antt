@@ -2,5 +2,5 @@
 use Rattle.wire.proofs.AnyLaws.{any_access}
 use Rattle.wire.proofs.any_access.Tie as tie
 
-pub any-access-spec : {M : Type 1} → Rattle.wire.proofs.any_access.Statement.statement M
-any-access-spec = tie.close (tie.spec (λ c. any_access))
+pub any_access_spec : {M : Type 1} → Rattle.wire.proofs.any_access.Statement.statement M
+any_access_spec = tie.close (tie.spec (λ c. any_access))

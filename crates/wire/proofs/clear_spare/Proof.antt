@@ -1,5 +1,5 @@
 -- `wire::clear_spare` meets its contract, by the laws of the spare bits. Assumes nothing.
-use Rattle.ground.proofs.Names.{sym, arith, needs}
+use Rattle.ground.proofs.Names.{sym, arith, rules}
 use Rattle.wire.proofs.ByteLaws.{none_spare, last_cleared}
 use Rattle.wire.proofs.clear_spare.Tie as tie
 
@@ -14,7 +14,7 @@ returns-2 c =
     let a = c.before.before.args in
     sym (none_spare a.room.now a.clocks (omega arith) (λ i. (c.before.slice-known.given i).fits) c.if1.false)
 
-pub clear-spare-spec : {M : Type 1} → Rattle.wire.proofs.clear_spare.Statement.statement M
-clear-spare-spec =
+pub clear_spare_spec : {M : Type 1} → Rattle.wire.proofs.clear_spare.Statement.statement M
+clear_spare_spec =
     tie.close
-    (tie.spec (λ c. search needs) (λ c κs. search needs) (λ c. search needs) (λ c. search needs) returns returns-2)
+    (tie.spec (λ c. search rules) (λ c κs. search rules) (λ c. search rules) (λ c. search rules) returns returns-2)

@@ -27,8 +27,8 @@ returns c =
     let e : l.k ≡ a.n = omega arith in
     l.invariant.2 ∙ rw e
 
-pub copy-bytes-spec : {M : Type 1} → Rattle.wire.proofs.copy_bytes.Statement.statement M
-copy-bytes-spec =
+pub copy_bytes_spec : {M : Type 1} → Rattle.wire.proofs.copy_bytes.Statement.statement M
+copy_bytes_spec =
     tie.close
     (tie.spec invariant-loop decreases-loop loop-holds (λ c. omega arith) (λ c. omega arith) (λ c. omega arith) (λ c. omega arith) (λ c. omega arith) loop-again
     (λ c. c.before.loop.invariant.1) returns)

@@ -1,5 +1,5 @@
 -- `wire::shift` meets its contract. Assumes nothing.
-use Rattle.ground.proofs.Names.{◌≤◌, arith, true, ◌≡◌, refl, sym, ◌∙◌, length, eq-eqb, ne_eqb, le-leb, lt-leb, needs}
+use Rattle.ground.proofs.Names.{◌≤◌, arith, true, ◌≡◌, refl, sym, ◌∙◌, length, eq-eqb, ne_eqb, le-leb, lt-leb, rules}
 use Rattle.refusals.specs.Refusals.{bytes_for}
 use Rattle.refusals.proofs.RefusalLaws.{size_served as served}
 use Rattle.wire.specs.Shift.{fits}
@@ -41,8 +41,8 @@ returns-4 c = simp (passed c.before.before.before.before.before.before.before.be
 returns-5 : tie.Need-returns-5
 returns-5 c = simp (passed c.before.before.before.before.before.before.before.before) c.before.before.before.before.shift-part.ensures
 
-pub shift-spec : {M : Type 1} → Rattle.wire.proofs.shift.Statement.statement M
-shift-spec =
+pub shift_spec : {M : Type 1} → Rattle.wire.proofs.shift.Statement.statement M
+shift_spec =
     tie.close
-    (tie.spec returns returns-2 (λ c κs. search needs) returns-3 (λ c. search needs) shift-whole-requires shift-part-requires (λ c. search needs)
-    (λ c. search needs) returns-4 (λ c. search needs) (λ c. search needs) returns-5)
+    (tie.spec returns returns-2 (λ c κs. search rules) returns-3 (λ c. search rules) shift-whole-requires shift-part-requires (λ c. search rules)
+    (λ c. search rules) returns-4 (λ c. search rules) (λ c. search rules) returns-5)

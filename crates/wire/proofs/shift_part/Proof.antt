@@ -1,5 +1,5 @@
 -- `wire::shift_part` meets its contract, by the laws of an access by one line of bytes. Assumes nothing.
-use Rattle.ground.proofs.Names.{arith, ◌≡◌, sym, ◌∙◌, length, take, replicate, length-take-le, needs}
+use Rattle.ground.proofs.Names.{arith, ◌≡◌, sym, ◌∙◌, length, take, replicate, length-take-le, rules}
 use Rattle.wire.proofs.LineLaws.{bytes_fit}
 use Rattle.wire.proofs.AccessLaws.{line_words, line_answer}
 use Rattle.wire.proofs.shift_part.Tie as tie
@@ -19,10 +19,10 @@ returns c =
       cleared.clear-spare.ensures ∙ line_answer ws a.sent.now a.n a.clocks count start.requires.3 _ _ _ old copied.copy-bytes.ensures (omega arith) a.room.now _ answered.copy-bytes2.ensures,
     )
 
-pub shift-part-spec : {M : Type 1} → Rattle.wire.proofs.shift_part.Statement.statement M
-shift-part-spec =
+pub shift_part_spec : {M : Type 1} → Rattle.wire.proofs.shift_part.Statement.statement M
+shift_part_spec =
     tie.close
-    (tie.spec (λ c. search needs) (λ c. search needs)
-    (λ c. let a = c.before.before.before.before.args in sym (length-take-le a.n a.words.now (omega arith))) (λ c. search needs)
-    (λ c κs. search needs) (λ c. search needs) (λ c. search needs) (λ c κs. search needs) (λ c. search needs) (λ c κs. search needs) (λ c κs. search needs)
-    (λ c. search needs) (λ c κs. search needs) (λ c. search needs) (λ c. search needs) returns)
+    (tie.spec (λ c. search rules) (λ c. search rules)
+    (λ c. let a = c.before.before.before.before.args in sym (length-take-le a.n a.words.now (omega arith))) (λ c. search rules)
+    (λ c κs. search rules) (λ c. search rules) (λ c. search rules) (λ c κs. search rules) (λ c. search rules) (λ c κs. search rules) (λ c κs. search rules)
+    (λ c. search rules) (λ c κs. search rules) (λ c. search rules) (λ c. search rules) returns)

@@ -1,5 +1,5 @@
 -- `wire::shift_whole` meets its contract, by the laws of an access by whole words. Assumes nothing.
-use Rattle.ground.proofs.Names.{arith, ◌≡◌, sym, ◌∙◌, length, take, length-take-le, needs}
+use Rattle.ground.proofs.Names.{arith, ◌≡◌, sym, ◌∙◌, length, take, length-take-le, rules}
 use Rattle.wire.proofs.LineLaws.{bytes_fit}
 use Rattle.wire.proofs.AccessLaws.{sent_words, whole_answer}
 use Rattle.wire.proofs.shift_whole.Tie as tie
@@ -18,10 +18,10 @@ returns c =
       cleared.clear-spare.ensures ∙ whole_answer ws a.sent.now a.n a.clocks count start.requires.3 start.requires.2 a.room.now _ _ old copied.copy-bytes.ensures,
     )
 
-pub shift-whole-spec : {M : Type 1} → Rattle.wire.proofs.shift_whole.Statement.statement M
-shift-whole-spec =
+pub shift_whole_spec : {M : Type 1} → Rattle.wire.proofs.shift_whole.Statement.statement M
+shift_whole_spec =
     tie.close
-    (tie.spec (λ c. search needs) (λ c. search needs)
-    (λ c. let a = c.before.before.before.before.args in sym (length-take-le a.n a.words.now (omega arith))) (λ c κs. search needs)
-    (λ c. search needs) (λ c. search needs) (λ c. search needs) (λ c κs. search needs) (λ c κs. search needs) (λ c. search needs) (λ c. search needs)
-    (λ c κs. search needs) (λ c. search needs) (λ c. search needs) returns)
+    (tie.spec (λ c. search rules) (λ c. search rules)
+    (λ c. let a = c.before.before.before.before.args in sym (length-take-le a.n a.words.now (omega arith))) (λ c κs. search rules)
+    (λ c. search rules) (λ c. search rules) (λ c. search rules) (λ c κs. search rules) (λ c κs. search rules) (λ c. search rules) (λ c. search rules)
+    (λ c κs. search rules) (λ c. search rules) (λ c. search rules) returns)

@@ -1,5 +1,5 @@
 -- `wire::write_bytes` meets its contract. The invariant: the bytes of the last j words are written, and the rest is as it was. Assumes nothing.
-use Rattle.ground.proofs.Names.{◌-◌, ◌*◌, ◌≤◌, arith, ◌++◌, ◌≡◌, refl, ◌∙◌, length, drop, length-set, needs, lt-ltb, le-ltb}
+use Rattle.ground.proofs.Names.{◌-◌, ◌*◌, ◌≤◌, arith, ◌++◌, ◌≡◌, refl, ◌∙◌, length, drop, length-set, rules, lt-ltb, le-ltb}
 use Rattle.wire.specs.Line.{word_bytes}
 use Rattle.wire.proofs.LineLaws.{bytes_none, bytes_more}
 use Rattle.wire.proofs.write_bytes.Tie as tie
@@ -28,10 +28,10 @@ returns-2 c =
     let z : length a.words.now - length a.words.now ≡ 0 = omega arith in
     l.invariant.2 ∙ rw (e, z, le-ltb (length a.room.now) (2 * length a.words.now) (omega arith))
 
-pub write-bytes-spec : {M : Type 1} → Rattle.wire.proofs.write_bytes.Statement.statement M
-write-bytes-spec =
+pub write_bytes_spec : {M : Type 1} → Rattle.wire.proofs.write_bytes.Statement.statement M
+write_bytes_spec =
     tie.close
     (tie.spec invariant-loop decreases-loop (λ c. let a = c.before.args in rw (lt-ltb (length a.room.now) (2 * length a.words.now) (omega arith)))
-    (λ c. (omega arith, refl, bytes_none c.before.args.words.now _)) (λ c. search needs) (λ c. search needs) (λ c. search needs) (λ c. search needs)
-    cast-room (λ c. search needs) (λ c. search needs) (λ c. search needs) (λ c. search needs) (λ c. search needs) (λ c. simp length-set (omega arith))
-    (λ c. search needs) (λ c. search needs) loop-again (λ c. c.before.loop.invariant.1) returns-2)
+    (λ c. (omega arith, refl, bytes_none c.before.args.words.now _)) (λ c. search rules) (λ c. search rules) (λ c. search rules) (λ c. search rules)
+    cast-room (λ c. search rules) (λ c. search rules) (λ c. search rules) (λ c. search rules) (λ c. search rules) (λ c. simp length-set (omega arith))
+    (λ c. search rules) (λ c. search rules) loop-again (λ c. c.before.loop.invariant.1) returns-2)

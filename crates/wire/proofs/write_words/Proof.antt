@@ -18,8 +18,8 @@ returns : tie.Need-returns invariant-loop decreases-loop
 unfolding words
 returns c = filled_all c.before.loop.invariant (omega arith)
 
-pub write-words-spec : {M : Type 1} → Rattle.wire.proofs.write_words.Statement.statement M
-write-words-spec =
+pub write_words_spec : {M : Type 1} → Rattle.wire.proofs.write_words.Statement.statement M
+write_words_spec =
     tie.close
     (tie.spec invariant-loop decreases-loop (λ c. filled_start) (λ c. omega arith) (λ c. omega arith) (λ c. omega arith) (λ c. omega arith) (λ c κs. omega arith)
     (λ c. omega arith) (λ c. omega arith) (λ c. omega arith) (λ c. omega arith) loop-again (λ c. c.before.loop.invariant.size) returns)

@@ -1,5 +1,5 @@
 -- `wiring::packed_row` meets its contract. Assumes nothing.
-use Rattle.ground.proofs.Names.{arith, le-ltb, needs}
+use Rattle.ground.proofs.Names.{arith, le-ltb, rules}
 use Rattle.wiring.proofs.Packing.{packed_row_lem}
 use Rattle.wiring.proofs.packed_row.Tie as tie
 
@@ -12,7 +12,7 @@ returns-2 c =
     rw (c.before.before.first-pins.ensures, c.before.middle-pins.ensures, c.last-pins.ensures)
     (packed_row_lem driven.before.args.display driven.before.args.cathode (omega arith))
 
-pub packed-row-spec : {M : Type 1} → Rattle.wiring.proofs.packed_row.Statement.statement M
-packed-row-spec =
+pub packed_row_spec : {M : Type 1} → Rattle.wiring.proofs.packed_row.Statement.statement M
+packed_row_spec =
     tie.close
-    (tie.spec returns (λ c κs. search needs) (λ c κs. search needs) (λ c κs. search needs) returns-2)
+    (tie.spec returns (λ c κs. search rules) (λ c κs. search rules) (λ c κs. search rules) returns-2)

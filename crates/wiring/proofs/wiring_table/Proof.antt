@@ -2,5 +2,5 @@
 use Rattle.wiring.proofs.Wired.{wired}
 use Rattle.wiring.proofs.wiring_table.Tie as tie
 
-pub wiring-table-spec : {M : Type 1} → Rattle.wiring.proofs.wiring_table.Statement.statement M
-wiring-table-spec = tie.close (tie.spec (λ c. wired))
+pub wiring_table_spec : {M : Type 1} → Rattle.wiring.proofs.wiring_table.Statement.statement M
+wiring_table_spec = tie.close (tie.spec (λ c. wired))

@@ -1,12 +1,12 @@
 -- `words::alike_at` meets its contract. Assumes nothing.
-use Rattle.ground.proofs.Names.{arith, le-ltb, past_arms, needs}
+use Rattle.ground.proofs.Names.{arith, le-ltb, past_arms, rules}
 use Rattle.words.proofs.alike_at.Tie as tie
 
 returns-9 : tie.Need-returns-9
 returns-9 c = simp (c.high-register.ensures, le-ltb _ 8 (past_arms 8 0 _ c.before.match.rest (omega arith)))
 
-pub alike-at-spec : {M : Type 1} → Rattle.words.proofs.alike_at.Statement.statement M
-alike-at-spec =
+pub alike_at_spec : {M : Type 1} → Rattle.words.proofs.alike_at.Statement.statement M
+alike_at_spec =
     tie.close
-    (tie.spec (λ c κs. search needs) (λ c. simp c.match.keys1) (λ c. simp c.match.keys2) (λ c. simp c.match.keys3) (λ c. simp c.match.keys4)
+    (tie.spec (λ c κs. search rules) (λ c. simp c.match.keys1) (λ c. simp c.match.keys2) (λ c. simp c.match.keys3) (λ c. simp c.match.keys4)
     (λ c. simp c.match.keys5) (λ c. simp c.match.keys6) (λ c. simp c.match.keys7) (λ c. simp c.match.keys8) returns-9)

@@ -8,5 +8,5 @@ returns c = search tests
 returns-2 : tie.Need-returns-2
 returns-2 c = search tests
 
-pub interrupt-spec : {M : Type 1} → Rattle.device.proofs.Device.interrupt.Statement.statement M
-interrupt-spec = tie.close (tie.spec returns returns-2)
+pub interrupt_spec : {M : Type 1} → Rattle.device.proofs.Device.interrupt.Statement.statement M
+interrupt_spec = tie.close (tie.spec returns returns-2)

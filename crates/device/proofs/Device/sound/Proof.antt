@@ -1,5 +1,5 @@
 -- `device::Device::sound` meets its contract. Assumes nothing.
-use Rattle.ground.proofs.Names.{needs, tests, eq-eqb, ne_eqb}
+use Rattle.ground.proofs.Names.{rules, tests, eq-eqb, ne_eqb}
 use Rattle.device.specs.Families.{sound_record}
 use Rattle.device.proofs.Device.sound.Tie as tie
 
@@ -15,5 +15,5 @@ returns-3 : tie.Need-returns-3
 unfolding sound_record
 returns-3 c = search tests
 
-pub sound-spec : {M : Type 1} → Rattle.device.proofs.Device.sound.Statement.statement M
-sound-spec = tie.close (tie.spec (λ c κs. search needs) returns (λ c κs. search needs) returns-2 returns-3)
+pub sound_spec : {M : Type 1} → Rattle.device.proofs.Device.sound.Statement.statement M
+sound_spec = tie.close (tie.spec (λ c κs. search rules) returns (λ c κs. search rules) returns-2 returns-3)

@@ -1,5 +1,5 @@
 -- `device::Device::with_pins` meets its contract. Assumes nothing.
-use Rattle.ground.proofs.Names.{needs, tests}
+use Rattle.ground.proofs.Names.{rules, tests}
 use Rattle.device.specs.Families.{pinned}
 use Rattle.device.proofs.Device.with_pins.Tie as tie
 
@@ -11,5 +11,5 @@ returns-2 : tie.Need-returns-2
 unfolding pinned
 returns-2 c = search tests
 
-pub with-pins-spec : {M : Type 1} → Rattle.device.proofs.Device.with_pins.Statement.statement M
-with-pins-spec = tie.close (tie.spec (λ c κs. search needs) returns returns-2)
+pub with_pins_spec : {M : Type 1} → Rattle.device.proofs.Device.with_pins.Statement.statement M
+with_pins_spec = tie.close (tie.spec (λ c κs. search rules) returns returns-2)

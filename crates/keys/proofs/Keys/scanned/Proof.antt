@@ -1,5 +1,5 @@
 -- `keys::Keys::scanned` meets its contract. Assumes nothing.
-use Rattle.ground.proofs.Names.{ℕ, ◌<◌, List, needs}
+use Rattle.ground.proofs.Names.{ℕ, ◌<◌, List, rules}
 use mir.Val.{Val}
 use denote.Shadow.{shadow}
 use Rattle.keys.specs.declared.Group.{Group}
@@ -20,7 +20,7 @@ registers c =
 
 closed : (c : tie.Start) (j : ℕ) → j < 4 → four c.args.a c.args.b c.args.c c.args.d j < 256
 closed c =
-    at_places (λ j. four c.args.a c.args.b c.args.c c.args.d j < 256) (search needs) (search needs) (search needs) (search needs)
+    at_places (λ j. four c.args.a c.args.b c.args.c c.args.d j < 256) (search rules) (search rules) (search rules) (search rules)
 
 returns : tie.Need-returns
 returns c =
@@ -28,8 +28,8 @@ returns c =
     simp (c.unpacked.ensures, c.before.scanned.ensures, c.before.before.raised-or.ensures, c.before.before.before.raises.ensures, c.before.before.before.before.configured.ensures, c.before.before.before.before.before.joined.ensures, c.before.before.before.before.before.before.packed.ensures)
     (scanned_packed_lem s.args.self s.args.ports s.args.a s.args.b s.args.c s.args.d (registers s) (closed s))
 
-pub scanned-spec : {M : Type 1} → Rattle.keys.proofs.Keys.scanned.Statement.statement M
-scanned-spec =
+pub scanned_spec : {M : Type 1} → Rattle.keys.proofs.Keys.scanned.Statement.statement M
+scanned_spec =
     tie.close
-    (tie.spec (λ c κs. search needs) (λ c κs. search needs) (λ c κs. search needs) (λ c κs. search needs) (λ c κs. search needs) (λ c κs. search needs)
-    (λ c κs. search needs) returns)
+    (tie.spec (λ c κs. search rules) (λ c κs. search rules) (λ c κs. search rules) (λ c κs. search rules) (λ c κs. search rules) (λ c κs. search rules)
+    (λ c κs. search rules) returns)

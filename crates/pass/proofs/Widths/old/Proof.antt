@@ -2,5 +2,5 @@
 use Rattle.pass.proofs.Masks.{byte_mask}
 use Rattle.pass.proofs.Widths.old.Tie as tie
 
-pub old-spec : {M : Type 1} → Rattle.pass.proofs.Widths.old.Statement.statement M
-old-spec = tie.close (tie.spec (λ c. simp byte_mask))
+pub old_spec : {M : Type 1} → Rattle.pass.proofs.Widths.old.Statement.statement M
+old_spec = tie.close (tie.spec (λ c. simp byte_mask))

@@ -1,5 +1,5 @@
 -- `registers::Registers::written` meets its contract. Assumes nothing.
-use Rattle.ground.proofs.Names.{needs}
+use Rattle.ground.proofs.Names.{rules}
 use Rattle.registers.proofs.Registers.written.Tie as tie
 
 returns-2 : tie.Need-returns-2
@@ -20,11 +20,11 @@ returns-8 c = simp (c.before.before.before.register4.given.1, c.before.written2.
 returns-9 : tie.Need-returns-9
 returns-9 c = simp (c.before.before.before.register5.given.1, c.before.both_written.ensures, c.with-planes2.ensures)
 
-pub written-spec : {M : Type 1} → Rattle.registers.proofs.Registers.written.Statement.statement M
-written-spec =
+pub written_spec : {M : Type 1} → Rattle.registers.proofs.Registers.written.Statement.statement M
+written_spec =
     tie.close
-    (tie.spec (λ c. search needs) (λ c. search needs) (λ c κs. search needs) (λ c κs. search needs) (λ c. search needs) (λ c κs. search needs)
-    (λ c. search needs) (λ c κs. search needs) (λ c κs. search needs) (λ c. search needs) (λ c. search needs) (λ c. search needs) (λ c κs. search needs)
-    (λ c κs. search needs) (λ c. search needs) (λ c κs. search needs) (λ c κs. search needs) (λ c. search needs) (λ c κs. search needs) (λ c κs. search needs)
-    (λ c. search needs) (λ c. simp c.enum_told.given.1) returns-2 returns-3 returns-4 (λ c. simp c.enum-told3.given.1)
+    (tie.spec (λ c. search rules) (λ c. search rules) (λ c κs. search rules) (λ c κs. search rules) (λ c. search rules) (λ c κs. search rules)
+    (λ c. search rules) (λ c κs. search rules) (λ c κs. search rules) (λ c. search rules) (λ c. search rules) (λ c. search rules) (λ c κs. search rules)
+    (λ c κs. search rules) (λ c. search rules) (λ c κs. search rules) (λ c κs. search rules) (λ c. search rules) (λ c κs. search rules) (λ c κs. search rules)
+    (λ c. search rules) (λ c. simp c.enum_told.given.1) returns-2 returns-3 returns-4 (λ c. simp c.enum-told3.given.1)
     (λ c. simp c.enum-told4.given.1) returns-7 returns-8 returns-9 (λ c. simp c.enum-told5.given.1))

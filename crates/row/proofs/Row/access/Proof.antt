@@ -1,5 +1,5 @@
 -- `row::Row::access` meets its contract. Assumes nothing.
-use Rattle.ground.proofs.Names.{◌≡◌, ◌∙◌, needs}
+use Rattle.ground.proofs.Names.{◌≡◌, ◌∙◌, rules}
 use Rattle.calls.specs.Calls.{access}
 use Rattle.row.specs.Row.{number_on}
 use Rattle.row.proofs.RowLaws.{access_found, access_refused, access_done}
@@ -27,8 +27,8 @@ returns-2 c =
     rw (c.all-taken.ensures, h.shift.ensures.0, h.shift.ensures.1, w.shift-words.ensures, f.before.before.length.ensures.0)
     (access_done a.self a.clocks a.sent.now a.room.now _ (number_is f) w.before.if1.false)
 
-pub access-spec : {M : Type 1} → Rattle.row.proofs.Row.access.Statement.statement M
-access-spec =
+pub access_spec : {M : Type 1} → Rattle.row.proofs.Row.access.Statement.statement M
+access_spec =
     tie.close
-    (tie.spec (λ c κs. search needs) (λ c κs. search needs) (λ c κs. search needs) (λ c κs. search needs) returns (λ c κs. search needs) (λ c. search needs)
-    (λ c κs. search needs) (λ c κs. search needs) (λ c. search needs) returns-2)
+    (tie.spec (λ c κs. search rules) (λ c κs. search rules) (λ c κs. search rules) (λ c κs. search rules) returns (λ c κs. search rules) (λ c. search rules)
+    (λ c κs. search rules) (λ c κs. search rules) (λ c. search rules) returns-2)

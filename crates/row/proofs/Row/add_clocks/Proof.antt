@@ -1,5 +1,5 @@
 -- `row::Row::add_clocks` meets its contract. Assumes nothing.
-use Rattle.ground.proofs.Names.{◌∙◌, needs}
+use Rattle.ground.proofs.Names.{◌∙◌, rules}
 use Rattle.calls.specs.Calls.{clocks}
 use Rattle.row.proofs.RowLaws.{give_refused, give_done}
 use Rattle.row.proofs.Row.add_clocks.Tie as tie
@@ -21,6 +21,6 @@ returns-2 c =
     rw (c.served.ensures, c.before.clocked.ensures, c.before.before.named.ensures)
     (give_done a.self a.driver (clocks a.clocks) _ _ n.before.clocks-refusal.ensures n.number.ensures.0 l.if1.false)
 
-pub add-clocks-spec : {M : Type 1} → Rattle.row.proofs.Row.add_clocks.Statement.statement M
-add-clocks-spec =
-    tie.close (tie.spec (λ c κs. search needs) (λ c κs. search needs) (λ c κs. search needs) returns (λ c κs. search needs) (λ c κs. search needs) served-requires returns-2)
+pub add_clocks_spec : {M : Type 1} → Rattle.row.proofs.Row.add_clocks.Statement.statement M
+add_clocks_spec =
+    tie.close (tie.spec (λ c κs. search rules) (λ c κs. search rules) (λ c κs. search rules) returns (λ c κs. search rules) (λ c κs. search rules) served-requires returns-2)

@@ -1,5 +1,5 @@
 -- `row::Row::all_taken` meets its contract. The invariant: the first i records took their words. Assumes nothing.
-use Rattle.ground.proofs.Names.{◌-◌, ◌<◌, arith, ◌≡◌, refl, length, get_or, needs, Filled, filled_start, filled_more, filled_rest, filled_all}
+use Rattle.ground.proofs.Names.{◌-◌, ◌<◌, arith, ◌≡◌, refl, length, get_or, rules, Filled, filled_start, filled_more, filled_rest, filled_all}
 use Rattle.device.specs.PowerUp.{power_up}
 use Rattle.device.specs.Families.{takes}
 use Rattle.row.proofs.Typed.{sixteen, default}
@@ -23,8 +23,8 @@ loop-again c =
 returns : tie.Need-returns invariant-loop decreases-loop
 returns c = let l = c.before.loop in rw (← l.invariant.0, ← filled_all l.invariant.1 (omega arith))
 
-pub all-taken-spec : {M : Type 1} → Rattle.row.proofs.Row.all_taken.Statement.statement M
-all-taken-spec =
+pub all_taken_spec : {M : Type 1} → Rattle.row.proofs.Row.all_taken.Statement.statement M
+all_taken_spec =
     tie.close
-    (tie.spec invariant-loop decreases-loop (λ c. (refl, filled_start)) (λ c. search needs) (λ c. search needs) (λ c. search needs) (λ c. search needs) (λ c κs. search needs)
-    (λ c. search needs) (λ c. search needs) (λ c. search needs) (λ c. omega arith) loop-again returns)
+    (tie.spec invariant-loop decreases-loop (λ c. (refl, filled_start)) (λ c. search rules) (λ c. search rules) (λ c. search rules) (λ c. search rules) (λ c κs. search rules)
+    (λ c. search rules) (λ c. search rules) (λ c. search rules) (λ c. omega arith) loop-again returns)

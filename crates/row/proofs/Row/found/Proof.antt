@@ -1,5 +1,5 @@
 -- `row::Row::found` meets its contract. Assumes nothing.
-use Rattle.ground.proofs.Names.{arith, ◌∙◌, needs}
+use Rattle.ground.proofs.Names.{arith, ◌∙◌, rules}
 use Rattle.pass.proofs.FoundLaws.{pass_le}
 use Rattle.row.proofs.Typed.{all_bytes}
 use Rattle.row.proofs.RowLaws.{number_found}
@@ -15,5 +15,5 @@ returns c =
     let a = s.args in
     c.found.ensures ∙ rw c.before.seen.ensures (number_found a.self _ p.before.length.ensures.0 a.first p.to-pass.result p.to-pass.ensures (all_bytes a.self _ s.well_formed.0 p.to-pass.result))
 
-pub found-spec : {M : Type 1} → Rattle.row.proofs.Row.found.Statement.statement M
-found-spec = tie.close (tie.spec (λ c κs. search needs) (λ c κs. search needs) seen-requires (λ c κs. search needs) returns)
+pub found_spec : {M : Type 1} → Rattle.row.proofs.Row.found.Statement.statement M
+found_spec = tie.close (tie.spec (λ c κs. search rules) (λ c κs. search rules) seen-requires (λ c κs. search rules) returns)

@@ -1,5 +1,5 @@
 -- `row::Row::named` meets its contract. Assumes nothing.
-use Rattle.ground.proofs.Names.{◌-◌, arith, ◌≡◌, sym, List·getD-eq-default, needs}
+use Rattle.ground.proofs.Names.{◌-◌, arith, ◌≡◌, sym, List·getD-eq-default, rules}
 use Rattle.device.specs.PowerUp.{power_up}
 use Rattle.row.proofs.Typed.{sixteen, default}
 use Rattle.row.proofs.Row.named.Tie as tie
@@ -20,6 +20,6 @@ returns-3 c =
     let s = c.before.before in
     sym (List·getD-eq-default s.args.t1.devices power_up {n = s.args.driver - 1} (omega (arith, sixteen s.args.t1 _ s.well_formed.0)))
 
-pub named-spec : {M : Type 1} → Rattle.row.proofs.Row.named.Statement.statement M
-named-spec =
-    tie.close (tie.spec (λ c. search needs) returns (λ c. search needs) (λ c. search needs) (λ c. search needs) returns-2 returns-3)
+pub named_spec : {M : Type 1} → Rattle.row.proofs.Row.named.Statement.statement M
+named_spec =
+    tie.close (tie.spec (λ c. search rules) returns (λ c. search rules) (λ c. search rules) (λ c. search rules) returns-2 returns-3)

@@ -1,5 +1,5 @@
 -- `row::Row::number` meets its contract. Assumes nothing.
-use Rattle.ground.proofs.Names.{◌≡◌, ◌∙◌, needs}
+use Rattle.ground.proofs.Names.{◌≡◌, ◌∙◌, rules}
 use Rattle.pass.specs.Found.{call_refusal}
 use Rattle.row.specs.Row.{records}
 use Rattle.row.proofs.Typed.{sixteen, all_bytes}
@@ -25,6 +25,6 @@ returns-2 c =
     (call_found a.self n.result n.ensures.0 a.driver a.own _ c.before.before.before.before.by-arguments.ensures c.before.before.before.if1.false (all_bytes a.self _ s.well_formed.0 n.result)) in
     (e, in_row a.self (sixteen a.self _ s.well_formed.0) a.driver a.own _ e)
 
-pub number-spec : {M : Type 1} → Rattle.row.proofs.Row.number.Statement.statement M
-number-spec =
-    tie.close (tie.spec (λ c κs. search needs) (λ c κs. search needs) returns (λ c κs. search needs) (λ c κs. search needs) (λ c κs. search needs) returns-2)
+pub number_spec : {M : Type 1} → Rattle.row.proofs.Row.number.Statement.statement M
+number_spec =
+    tie.close (tie.spec (λ c κs. search rules) (λ c κs. search rules) returns (λ c κs. search rules) (λ c κs. search rules) (λ c κs. search rules) returns-2)

@@ -1,5 +1,5 @@
 -- `row::Row::scan` meets its contract. Assumes nothing.
-use Rattle.ground.proofs.Names.{◌∙◌, needs}
+use Rattle.ground.proofs.Names.{◌∙◌, rules}
 use Rattle.calls.specs.Calls.{scan}
 use Rattle.row.proofs.RowLaws.{give_refused, give_done}
 use Rattle.row.proofs.Row.scan.Tie as tie
@@ -21,6 +21,6 @@ returns-2 c =
     rw (c.served.ensures, c.before.scanned.ensures, c.before.before.named.ensures)
     (give_done a.self a.driver (scan a.a a.b a.c a.d) _ _ n.before.scan-refusal.ensures n.number.ensures.0 l.if1.false)
 
-pub scan-spec : {M : Type 1} → Rattle.row.proofs.Row.scan.Statement.statement M
-scan-spec =
-    tie.close (tie.spec (λ c κs. search needs) (λ c κs. search needs) (λ c κs. search needs) returns (λ c κs. search needs) (λ c κs. search needs) served-requires returns-2)
+pub scan_spec : {M : Type 1} → Rattle.row.proofs.Row.scan.Statement.statement M
+scan_spec =
+    tie.close (tie.spec (λ c κs. search rules) (λ c κs. search rules) (λ c κs. search rules) returns (λ c κs. search rules) (λ c κs. search rules) served-requires returns-2)

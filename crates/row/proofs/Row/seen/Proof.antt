@@ -1,5 +1,5 @@
 -- `row::Row::seen` meets its contract. The invariant: what the first i records tell. Assumes nothing.
-use Rattle.ground.proofs.Names.{◌-◌, ◌≤◌, ◌<◌, arith, ◌≡◌, ◌∙◌, length, take, needs}
+use Rattle.ground.proofs.Names.{◌-◌, ◌≤◌, ◌<◌, arith, ◌≡◌, ◌∙◌, length, take, rules}
 use Rattle.device.specs.PowerUp.{power_up}
 use Rattle.pass.specs.Seen.{no_seen, seen_of}
 use Rattle.pass.proofs.SeenLaws.{seen_start, seen_more}
@@ -28,8 +28,8 @@ returns c =
     let end : c.before.loop.i ≡ c.before.before.before.args.n = omega arith in
     rw (c.before.loop.invariant.1, end)
 
-pub seen-spec : {M : Type 1} → Rattle.row.proofs.Row.seen.Statement.statement M
-seen-spec =
+pub seen_spec : {M : Type 1} → Rattle.row.proofs.Row.seen.Statement.statement M
+seen_spec =
     tie.close
-    (tie.spec invariant-loop decreases-loop (λ c κs. search needs) loop-holds (λ c. search needs) (λ c. search needs) (λ c κs. search needs) (λ c. search needs)
+    (tie.spec invariant-loop decreases-loop (λ c κs. search rules) loop-holds (λ c. search rules) (λ c. search rules) (λ c κs. search rules) (λ c. search rules)
     (λ c. omega arith) loop-again returns)

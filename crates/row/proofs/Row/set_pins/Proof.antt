@@ -1,5 +1,5 @@
 -- `row::Row::set_pins` meets its contract. Assumes nothing.
-use Rattle.ground.proofs.Names.{◌∙◌, needs}
+use Rattle.ground.proofs.Names.{◌∙◌, rules}
 use Rattle.calls.specs.Calls.{levels}
 use Rattle.row.proofs.RowLaws.{give_refused, give_done}
 use Rattle.row.proofs.Row.set_pins.Tie as tie
@@ -21,6 +21,6 @@ returns-2 c =
     rw (c.served.ensures, c.before.with-pins.ensures, c.before.before.named.ensures)
     (give_done a.self a.driver (levels a.levels) _ _ n.before.levels-refusal.ensures n.number.ensures.0 l.if1.false)
 
-pub set-pins-spec : {M : Type 1} → Rattle.row.proofs.Row.set_pins.Statement.statement M
-set-pins-spec =
-    tie.close (tie.spec (λ c κs. search needs) (λ c κs. search needs) (λ c κs. search needs) returns (λ c κs. search needs) (λ c κs. search needs) served-requires returns-2)
+pub set_pins_spec : {M : Type 1} → Rattle.row.proofs.Row.set_pins.Statement.statement M
+set_pins_spec =
+    tie.close (tie.spec (λ c κs. search rules) (λ c κs. search rules) (λ c κs. search rules) returns (λ c κs. search rules) (λ c κs. search rules) served-requires returns-2)

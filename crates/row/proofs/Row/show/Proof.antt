@@ -1,5 +1,5 @@
 -- `row::Row::show` meets its contract. Assumes nothing.
-use Rattle.ground.proofs.Names.{needs}
+use Rattle.ground.proofs.Names.{rules}
 use Rattle.row.proofs.RowLaws.{show_refused, show_done}
 use Rattle.row.proofs.Row.show.Tie as tie
 
@@ -16,6 +16,6 @@ returns-2 c =
     rw (c.before.segments.ensures, c.before.before.named.ensures)
     (show_done a.self a.driver a.cathode a.font14.now a.font16.now _ _ n.before.segments-refusal.ensures n.number.ensures.0 c.before.before.before.if1.false)
 
-pub show-spec : {M : Type 1} → Rattle.row.proofs.Row.show.Statement.statement M
-show-spec =
-    tie.close (tie.spec (λ c κs. search needs) (λ c κs. search needs) returns (λ c κs. search needs) (λ c κs. search needs) returns-2)
+pub show_spec : {M : Type 1} → Rattle.row.proofs.Row.show.Statement.statement M
+show_spec =
+    tie.close (tie.spec (λ c κs. search rules) (λ c κs. search rules) returns (λ c κs. search rules) (λ c κs. search rules) returns-2)

@@ -6,5 +6,5 @@ returns : tie.Need-returns
 unfolding tabulate
 returns c = refl
 
-pub test-table-spec : {M : Type 1} → Rattle.script.proofs.format.test_table.Statement.statement M
-test-table-spec = tie.close (tie.spec returns)
+pub test_table_spec : {M : Type 1} → Rattle.script.proofs.format.test_table.Statement.statement M
+test_table_spec = tie.close (tie.spec returns)

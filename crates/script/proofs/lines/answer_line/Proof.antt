@@ -1,5 +1,5 @@
 -- `script::lines::answer_line` meets its contract. Assumes nothing.
-use Rattle.ground.proofs.Names.{arith, refl, needs}
+use Rattle.ground.proofs.Names.{arith, refl, rules}
 use Rattle.printed.specs.Lines.{hex_byte}
 use Rattle.script.proofs.RoomLaws.{written_length, both_written_lem, length_each, answer_none, answer_some}
 use Rattle.script.proofs.lines.answer_line.Tie as tie
@@ -18,8 +18,8 @@ returns-2 c =
     let end = both_written_lem _ _ _ _ _ _ _ _ c.before.before.before.before.before.before.before.hex-bytes.ensures c.before.before.text3.ensures in
     rw (answer_some _ c.before.before.before.before.before.before.before.before.before.before.before.before.before.before.if1.false) (both_written_lem _ _ _ _ _ _ _ _ c.before.before.before.before.before.before.before.before.before.before.before.text2.ensures end)
 
-pub answer-line-spec : {M : Type 1} → Rattle.script.proofs.lines.answer_line.Statement.statement M
-answer-line-spec =
+pub answer_line_spec : {M : Type 1} → Rattle.script.proofs.lines.answer_line.Statement.statement M
+answer_line_spec =
     tie.close
-    (tie.spec (λ c. search needs) (λ c κs. search needs) (λ c. search needs) returns (λ c. search needs) (λ c κs. search needs) (λ c κs. search needs)
-    (λ c. search needs) text-requires-3 (λ c. search needs) returns-2)
+    (tie.spec (λ c. search rules) (λ c κs. search rules) (λ c. search rules) returns (λ c. search rules) (λ c κs. search rules) (λ c κs. search rules)
+    (λ c. search rules) text-requires-3 (λ c. search rules) returns-2)

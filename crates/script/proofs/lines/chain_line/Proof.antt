@@ -1,5 +1,5 @@
 -- `script::lines::chain_line` meets its contract. Assumes nothing.
-use Rattle.ground.proofs.Names.{arith, needs}
+use Rattle.ground.proofs.Names.{arith, rules}
 use Rattle.script.proofs.RoomLaws.{written_length, both_written_lem, decimal_short}
 use Rattle.script.proofs.lines.chain_line.Tie as tie
 
@@ -11,6 +11,6 @@ decimal-requires c κs =
 returns : tie.Need-returns
 returns c = both_written_lem _ _ _ _ _ _ _ _ c.before.before.before.before.before.before.text.ensures c.before.before.decimal.ensures
 
-pub chain-line-spec : {M : Type 1} → Rattle.script.proofs.lines.chain_line.Statement.statement M
-chain-line-spec =
-    tie.close (tie.spec (λ c. search needs) (λ c κs. search needs) decimal-requires (λ c. search needs) returns)
+pub chain_line_spec : {M : Type 1} → Rattle.script.proofs.lines.chain_line.Statement.statement M
+chain_line_spec =
+    tie.close (tie.spec (λ c. search rules) (λ c κs. search rules) decimal-requires (λ c. search rules) returns)

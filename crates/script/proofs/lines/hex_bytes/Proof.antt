@@ -16,8 +16,8 @@ hex-digit-requires c κs = omega (arith, c.shared-slice-known2.given c.before.be
 loop-again : tie.Need-loop-preserved invariant-loop decreases-loop
 loop-again c = texts_more _ c.before.before.before.before.loop.invariant (omega arith) refl (simp (towards_suc, c.before.hex-digit.ensures, c.hex-digit2.ensures))
 
-pub hex-bytes-spec : {M : Type 1} → Rattle.script.proofs.lines.hex_bytes.Statement.statement M
-hex-bytes-spec =
+pub hex_bytes_spec : {M : Type 1} → Rattle.script.proofs.lines.hex_bytes.Statement.statement M
+hex_bytes_spec =
     tie.close
     (tie.spec invariant-loop decreases-loop (λ c. texts_start) (λ c. omega arith) hex-digit-requires (λ c. omega arith) (λ c κs. omega arith) (λ c. omega arith)
     (λ c. simp length-set (omega arith)) (λ c. omega arith) (λ c. omega arith) (λ c. omega arith) loop-again (λ c. c.before.loop.invariant.size)

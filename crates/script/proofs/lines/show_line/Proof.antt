@@ -1,5 +1,5 @@
 -- `script::lines::show_line` meets its contract. Assumes nothing.
-use Rattle.ground.proofs.Names.{arith, ◌≡◌, refl, length, needs}
+use Rattle.ground.proofs.Names.{arith, ◌≡◌, refl, length, rules}
 use Rattle.printed.specs.Lines.{pin_text}
 use Rattle.script.proofs.RoomLaws.{written_length, both_written_lem, length_each}
 use Rattle.script.proofs.lines.show_line.Tie as tie
@@ -9,14 +9,14 @@ text-requires-2 c κs =
     let v = c.before.before.before.before.before.before.before.before.before.text.ensures in
     let w = c.before.before.before.before.before.letters.ensures in
     let pins = c.before.before.before.before.before.before.before.before.before.before.before.before.before.args.pins in
-    let n : length pins ≡ 19 = search needs in
+    let n : length pins ≡ 19 = search rules in
     omega (arith, v.place, w.place, length_each pin_text 1 (λ x. refl) pins, written_length _ _ _ _ _ v, written_length _ _ _ _ _ w)
 
 returns : tie.Need-returns
 returns c = both_written_lem _ _ _ _ _ _ _ _ c.before.before.before.before.before.before.before.before.before.before.before.before.text.ensures (both_written_lem _ _ _ _ _ _ _ _ c.before.before.before.before.before.before.before.before.letters.ensures (rw c.before.before.before.before.before.mark-letter.ensures at c.before.before.text2.ensures))
 
-pub show-line-spec : {M : Type 1} → Rattle.script.proofs.lines.show_line.Statement.statement M
-show-line-spec =
+pub show_line_spec : {M : Type 1} → Rattle.script.proofs.lines.show_line.Statement.statement M
+show_line_spec =
     tie.close
-    (tie.spec (λ c. search needs) (λ c κs. search needs) (λ c κs. search needs) (λ c κs. search needs) (λ c. search needs) text-requires-2 (λ c. search needs)
+    (tie.spec (λ c. search rules) (λ c κs. search rules) (λ c κs. search rules) (λ c κs. search rules) (λ c. search rules) text-requires-2 (λ c. search rules)
     returns)

@@ -9,8 +9,8 @@ invariant-loop bytes out₀ at place₀ i₀ out place i = Texts (λ b. b ∷ []
 abbrev decreases-loop : tie.decreases-loop
 decreases-loop bytes out₀ at place₀ i₀ out place i = length bytes - i
 
-pub text-spec : {M : Type 1} → Rattle.script.proofs.lines.text.Statement.statement M
-text-spec =
+pub text_spec : {M : Type 1} → Rattle.script.proofs.lines.text.Statement.statement M
+text_spec =
     tie.close
     (tie.spec invariant-loop decreases-loop (λ c. texts_start) (λ c. omega arith) (λ c. omega arith) (λ c. omega arith) (λ c. omega arith) (λ c. omega arith)
     (λ c. texts_more _ c.before.before.loop.invariant (omega arith) refl refl) (λ c. c.before.loop.invariant.size)

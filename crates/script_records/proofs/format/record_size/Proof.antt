@@ -1,5 +1,5 @@
 -- `script_records::format::record_size` meets its contract. Assumes nothing.
-use Rattle.ground.proofs.Names.{needs, tests}
+use Rattle.ground.proofs.Names.{rules, tests}
 use Rattle.script_records.proofs.format.record_size.Tie as tie
 
 returns-2 : tie.Need-returns-2
@@ -17,8 +17,8 @@ returns-5 c = rw (← c.before.before.before.before.before.before.before.before.
 returns-6 : tie.Need-returns-6
 returns-6 c = rw (← c.before.before.before.before.before.before.before.before.byte.ensures, ← c.before.before.before.before.before.before.byte2.ensures, ← c.before.before.before.before.word.ensures.0, ← c.before.before.byte3.ensures, ← c.before.length-fits.ensures, c.if5.false) (search tests)
 
-pub record-size-spec : {M : Type 1} → Rattle.script_records.proofs.format.record_size.Statement.statement M
-record-size-spec =
+pub record_size_spec : {M : Type 1} → Rattle.script_records.proofs.format.record_size.Statement.statement M
+record_size_spec =
     tie.close
-    (tie.spec (λ c. search tests) (λ c κs. search needs) returns-2 (λ c κs. search needs) returns-3 (λ c κs. search needs) (λ c. search needs) returns-4
-    (λ c κs. search needs) (λ c κs. search needs) returns-5 returns-6)
+    (tie.spec (λ c. search tests) (λ c κs. search rules) returns-2 (λ c κs. search rules) returns-3 (λ c κs. search rules) (λ c. search rules) returns-4
+    (λ c κs. search rules) (λ c κs. search rules) returns-5 returns-6)

@@ -1,5 +1,6 @@
 // The blink count of a MAX6954: master clocks, the phase, the plane shown, and a part of it from two lent planes.
 #![tactic(auto)]
+
 ghost use Rattle.std.specs.Prelude.{◌*◌, ◌%◌, ◌^◌, ◌<◌, ◌≤◌, true, ◌≡◌};
 ghost use Rattle.ground.specs.Choice.{odd};
 ghost use Rattle.refusals.specs.Refusals.{plane_refusal};

@@ -1,5 +1,6 @@
 // The control registers of a MAX6954, and the bits of its configuration register.
 #![tactic(auto)]
+
 ghost use Rattle.std.specs.Prelude.{◌≡◌, ◌≤◌};
 ghost use Rattle.controls.specs.Controls.{control_written, control_data};
 ghost use Rattle.controls.specs.Config.{config_of, phase_bit, config_data};

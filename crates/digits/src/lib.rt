@@ -1,5 +1,6 @@
 // What a MAX6954 keeps for its digits: both planes, and the intensity registers.
 #![tactic(auto)]
+
 ghost use Rattle.std.specs.Prelude.{◌≡◌, get_or, set};
 ghost use Rattle.ground.specs.Choice.{if};
 ghost use Rattle.digits.specs.Digits.{plane_of, digit_written, both_written, cleared};

@@ -1,5 +1,6 @@
 // The segments that a digit's byte lights: the hex font, direct control, and glyph words from lent tables.
 #![tactic(auto)]
+
 ghost use Rattle.std.specs.Prelude.{◌≡◌, ◌<◌, get_or};
 ghost use Rattle.glyphs.specs.Masks.{hex_font, hex_segments, seven_segments, pair_segments, glyph_segments, SegmentBySegment};
 ghost use Rattle.glyphs.specs.Tables.{GlyphTables};

@@ -1,5 +1,6 @@
 // The keys of a MAX6954: four groups of eight, scanned into debounced registers with an interrupt.
 #![tactic(auto)]
+
 ghost use Rattle.std.specs.Prelude.{◌≡◌};
 ghost use Rattle.keys.specs.Keys.{group_of, with_group, groups_of, mask_written, debounced_read, scanned_keys};
 ghost use Rattle.keys.specs.PackedKeys.{joined, split, configured, packed, unpacked, newly_packed, scanned_packed, raises_packed};

@@ -1,5 +1,6 @@
 // The five ports of a MAX6954: the GPIO data register as read.
 #![tactic(auto)]
+
 ghost use Rattle.std.specs.Prelude.{◌≡◌};
 ghost use Rattle.ports.specs.Ports.{free_ports, irq_level, port_data};
 ghost use Rattle.ports.specs.PortByPort.{PortByPort};

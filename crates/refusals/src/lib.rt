@@ -1,5 +1,6 @@
 // Document 01's table of numbers that a call may give, by lengths and numbers alone.
 #![tactic(auto)]
+
 ghost use Rattle.std.specs.Prelude.{◌≡◌};
 ghost use Rattle.refusals.specs.Refusals.{size_refusal};
 ghost use Rattle.refusals.specs.Sizes.{Sizes};

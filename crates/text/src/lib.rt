@@ -1,6 +1,7 @@
 // Text written into lent room from a place on: bytes as they are, numbers in decimal. Each function gives back the place after it; where it doesn't fit,
 // nothing is written and the place stays.
 #![tactic(auto)]
+
 ghost use Rattle.std.specs.Prelude.{◌≡◌};
 ghost use Rattle.text.specs.Text.{decimal as decimalOf};
 ghost use Rattle.text.specs.Examples.{Examples};

@@ -1,5 +1,6 @@
 // The bits on a chain's wire, by bytes and 16-bit windows.
 #![tactic(auto)]
+
 ghost use Rattle.std.specs.Prelude.{◌≡◌, ◌++◌, ◌+◌, ◌-◌, ◌*◌, ◌/◌, ◌^◌, ◌≤◌, ◌<◌, length, get_or, take, drop};
 ghost use Rattle.refusals.specs.Refusals.{bytes_for, size_refusal};
 ghost use Rattle.wire.specs.Bits.{bits, value, unpack, pack};

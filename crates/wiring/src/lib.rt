@@ -1,5 +1,6 @@
 // The segment pins O0 to O18 of each cathode (Tables 2 to 4), and the same packed.
 #![tactic(auto)]
+
 mod packed;
 mod table;
 

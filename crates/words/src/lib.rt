@@ -1,5 +1,6 @@
 // The registers of a MAX6954, and the 16-bit words that write and read them (Table 6).
 #![tactic(auto)]
+
 ghost use Rattle.std.specs.Prelude.{◌≡◌};
 ghost use Rattle.words.specs.Addresses.{high_register, alike_at, written_at, read_at, word_of};
 ghost use Rattle.words.specs.Table6.{Table6};

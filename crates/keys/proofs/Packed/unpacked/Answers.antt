@@ -1,0 +1,6 @@
+-- `keys::Packed::unpacked` meets its contract. Assumes nothing.
+use Rattle.ground.proofs.Names.{rules}
+use Rattle.keys.proofs.Packed.unpacked.Goals as goal
+
+pub returns : goal.returns
+returns c = simp (c.split-mask.ensures, c.split-debounced.ensures, c.split-pressed.ensures, c.split-held.ensures)

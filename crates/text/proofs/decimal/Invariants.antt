@@ -1,0 +1,11 @@
+-- `text::decimal` meets its contract. The invariant: the digits from a place on stand, and those of what is left are to come. Assumes nothing.
+use Rattle.ground.proofs.Names.{◌-◌, ◌%◌, ◌+◌, ◌≤◌, arith, ◌≡◌, refl, ◌∙◌, length, take, drop, set, length-drop, length-set, take_all, rules}
+use Rattle.text.specs.Text.{decimal}
+use Rattle.text.proofs.Digits.{Digits, digits_start, some_left, digits_more, digits_end}
+use Rattle.text.proofs.decimal.Given as goal
+
+abbrev pub invariant-loop-left : goal.invariant-loop-left
+invariant-loop-left l = Digits l.v l.digits l.place l.left
+
+abbrev pub decreases-loop-left : goal.decreases-loop-left
+decreases-loop-left l = l.left

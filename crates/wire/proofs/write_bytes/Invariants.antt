@@ -1,0 +1,12 @@
+-- `wire::write_bytes` meets its contract. The invariant: the bytes of the last j words are written, and the rest is as it was. Assumes nothing.
+use Rattle.ground.proofs.Names.{◌-◌, ◌*◌, ◌≤◌, arith, ◌++◌, ◌≡◌, refl, ◌∙◌, length, drop, length-set, rules, lt-ltb, le-ltb}
+use Rattle.wire.specs.Line.{word_bytes}
+use Rattle.wire.proofs.LineLaws.{bytes_none, bytes_more}
+use Rattle.wire.proofs.write_bytes.Given as goal
+
+abbrev pub invariant-loop-j : goal.invariant-loop-j
+invariant-loop-j l =
+    (l.j ≤ l.n) × (length l.room ≡ length l.initial.room) × (l.room ≡ word_bytes (drop (l.n - l.j) l.words) ++ drop (2 * l.j) l.initial.room)
+
+abbrev pub decreases-loop-j : goal.decreases-loop-j
+decreases-loop-j l = l.n - l.j

@@ -1,6 +1,0 @@
--- `wiring::six_pins` meets its contract. Assumes nothing.
-use Rattle.ground.proofs.Names.{rules}
-use Rattle.wiring.proofs.six_pins.Tie as tie
-
-pub six_pins_spec : {M : Type 1} → Rattle.wiring.proofs.six_pins.Statement.statement M
-six_pins_spec = tie.close (tie.spec (λ c. search rules) (λ c. search rules) (λ c. search rules) (λ c. simp c.enum_told.given.1) (λ c. simp c.enum-told2.given.1) (λ c. simp c.enum-told3.given.1))

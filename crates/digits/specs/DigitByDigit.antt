@@ -20,7 +20,7 @@ pub record DigitByDigit : Type 0 where
   pub p1_kept : (x : Planes) (i v : ℕ) → (digit_written x P0 i v).p1 ≡ x.p1
   pub p0_kept : (x : Planes) (i v : ℕ) → (digit_written x P1 i v).p0 ≡ x.p0
   -- 0x60+d writes the same byte in both
-  pub both_written : (x : Planes) (p : Plane) (i v : ℕ) → length (plane_of x p) ≡ 16 → i < 16 → digit_at (both_written x i v) p i ≡ v
+  pub written_both : (x : Planes) (p : Plane) (i v : ℕ) → length (plane_of x p) ≡ 16 → i < 16 → digit_at (both_written x i v) p i ≡ v
   pub others_both : (x : Planes) (p : Plane) (i j v : ℕ) → j ≢ i → digit_at (both_written x i v) p j ≡ digit_at x p j
   -- a plane keeps its length
   pub length_written : (x : Planes) (p q : Plane) (i v : ℕ) → length (plane_of (digit_written x p i v) q) ≡ length (plane_of x q)

@@ -217,7 +217,7 @@ cleared_sound (d ∷ ds) s = rw (cleared_one d (and_left (sound_record d) (all_s
 pub slipped_access : SlippedAccess
 slipped_access =
     record {
-      word_taken = λ ds qs c sent room. word_taken_lem c sent room ds qs;
+      fixed_word = λ ds qs c sent room. word_taken_lem c sent room ds qs;
       same_word = λ ds es ps qs c sent room. same_word c sent room ds es ps qs;
       wholly_alike = λ ds es c sent room. wholly_alike c sent room ds es;
       later_bits = λ ds es c sent room s t k w.

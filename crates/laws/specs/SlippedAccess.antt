@@ -45,7 +45,7 @@ shift_cleared d = with_mark (with_shift d 0) 0
 -- for every chain of sound records
 pub record SlippedAccess : Type 0 where
   -- "gives every driver a word fixed by the last 16n bits sent alone, whatever accesses came before"
-  pub word_taken : (ds : List Device) (qs : List Call) (c : ℕ) (sent room : List ℕ) → all_sound ds ≡ true → Whole (length ds) (families ds) c sent room
+  pub fixed_word : (ds : List Device) (qs : List Call) (c : ℕ) (sent room : List ℕ) → all_sound ds ≡ true → Whole (length ds) (families ds) c sent room
       → (i : ℕ) → 1 ≤ i → i ≤ length ds
       → record_of (after_all (qs ++ access c sent room ∷ []) ds) i ≡ takes (record_of (after_all qs ds) i) (last_word (length ds) i c sent)
   -- so on two chains of as many drivers, after any calls, driver i takes the same word

@@ -1,5 +1,6 @@
 // The registers of one MAX6957 by value: what a write stores, what a read gives and leaves, and transition detection.
 #![tactic(auto)]
+
 ghost use Rattle.std.specs.Prelude.{◌≡◌, ◌/◌, ◌%◌, ◌<◌, get_or, set};
 ghost use Rattle.port_registers.specs.Levels.{directions, inputs, levels, watched};
 ghost use Rattle.port_registers.specs.PackedPairs.{drawn, sixteen};

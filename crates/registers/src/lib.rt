@@ -1,5 +1,6 @@
 // The registers of one MAX6954 by value: what a write stores, and what a read gives and leaves.
 #![tactic(auto)]
+
 ghost use Rattle.std.specs.Prelude.{◌≡◌};
 ghost use Rattle.registers.specs.Record.{with_controls, with_intensities, with_keys, with_planes};
 ghost use Rattle.registers.specs.Registers.{configured, written, phase_of, gpio_data_of, data_of, after_read};

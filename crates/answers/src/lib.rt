@@ -1,5 +1,6 @@
 // What a driver of a chain answers to a question, by value: refused with a number, or from its record.
 #![tactic(auto)]
+
 ghost use Rattle.std.specs.Prelude.{◌≡◌, [], replicate};
 ghost use Rattle.ground.specs.Lists.{tabulate};
 ghost use Rattle.device.specs.Steps.{shown_plane};

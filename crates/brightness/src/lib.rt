@@ -1,5 +1,6 @@
 // Which cathodes of a MAX6954 are dark, and the brightness of each digit with what rules it.
 #![tactic(auto)]
+
 ghost use Rattle.std.specs.Prelude.{◌≡◌};
 ghost use Rattle.brightness.specs.Dark.{dark};
 ghost use Rattle.brightness.specs.Brightness.{own_nibble, nibble_of, sixteenths, ruled_to, brightness_of, ruler_of, ruler_code, brightness_answer};

@@ -1,5 +1,6 @@
 // The two-wire bus of the MAX6955: its state, and the theorems over its calls and whole lists of them.
 #![tactic(auto)]
+
 ghost use Rattle.bus.specs.BusIsolation.{BusIsolation};
 ghost use Rattle.bus.specs.Acknowledged.{Acknowledged};
 ghost use Rattle.bus.specs.Transactions.{Transactions};

@@ -1,5 +1,6 @@
 // The calls on a chain of MAX6954, and the theorems over whole lists of them.
 #![tactic(auto)]
+
 ghost use Rattle.calls.specs.Order.{Order};
 ghost use Rattle.calls.specs.Soundness.{Soundness};
 ghost use Rattle.calls.specs.NextAccess.{NextAccess};

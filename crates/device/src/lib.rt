@@ -1,5 +1,6 @@
 // One driver by value: its record, the word that it takes, and the other steps that change it.
 #![tactic(auto)]
+
 ghost use Rattle.std.specs.Prelude.{◌≡◌};
 ghost use Rattle.ground.specs.Choice.{if, bit};
 ghost use Rattle.words.specs.declared.Word.TheVariants.{Write, Read};

@@ -1,5 +1,6 @@
 // What a cathode of one MAX6954 shows: its pins. The function that answers it is in `shown_pins`.
 #![tactic(auto)]
+
 ghost use Rattle.std.specs.Prelude.{◌≡◌};
 ghost use Rattle.blink.specs.Part.{plane_part};
 ghost use Rattle.device.specs.Steps.{shown_plane};

@@ -1,5 +1,6 @@
 // What a word changes where its record lies, by value: with an address of 0x20 or above a digit's byte in each plane, else the registers; the shift word and the answer mark.
 #![tactic(auto)]
+
 ghost use Rattle.std.specs.Prelude.{◌≡◌};
 ghost use Rattle.high_words.specs.HighWords.{in_place, digit_of, new_p0, new_p1, digit_read, new_shift, new_mark};
 ghost use Rattle.high_words.specs.LowWords.{is_ports, low_registers, low_shift};

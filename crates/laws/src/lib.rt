@@ -1,5 +1,6 @@
 // Laws that the controller may rely on, of one driver and of accesses to a chain.
 #![tactic(auto)]
+
 ghost use Rattle.laws.specs.DriverLaws.{DriverLaws, OrderExamples};
 ghost use Rattle.laws.specs.ChainLaws.{ChainLaws};
 ghost use Rattle.laws.specs.SlippedAccess.{SlippedAccess, SlipExamples};

@@ -1,5 +1,6 @@
 // Passes over a lent chain of records: a call's number, the shift words, the words taken.
 #![tactic(auto)]
+
 ghost use Rattle.std.specs.Prelude.{◌≡◌, length, take};
 ghost use Rattle.device.specs.Families.{families};
 ghost use Rattle.calls.specs.CallRefusals.{families_below, all_sound};

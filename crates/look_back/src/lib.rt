@@ -1,5 +1,6 @@
 // One byte of a driver's planes after a list of its words. The function that answers it is in `stopping_word`.
 #![tactic(auto)]
+
 ghost use Rattle.look_back.specs.NoFurther.{NoFurther};
 ghost use Rattle.look_back.specs.Examples.{Examples};
 

@@ -63,7 +63,7 @@ module _ (c : Config) (q p : Planes) (list : List ℕ) (n i a : ℕ) where
     pub word_taken : allowed_by c (get_or list at 0) ≡ true
         → from_planes c q p (drop a (words_at n list i)) ≡ from_planes c q (acted p (act_of (get_or list at 0))) (drop (suc a) (words_at n list i))
     unfolding every drawn
-    word_taken_lem t = rw (next, t)
+    word_taken t = rw (next, t)
 
     pub word_refused : allowed_by c (get_or list at 0) ≡ false → from_planes c q p (drop a (words_at n list i)) ≡ false
     unfolding every drawn

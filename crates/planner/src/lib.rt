@@ -1,5 +1,6 @@
 // The planner by value: the words that one driver needs for its wanted contents, its part of a list of accesses, and whether it accepts its part of one.
 #![tactic(auto)]
+
 ghost use Rattle.std.specs.Prelude.{◌+◌, ◌*◌, ◌%◌, ◌<◌, ◌≤◌, max, ◌&&◌, [], ◌∷◌, ◌++◌, ◌≡◌, eqb, ltb, length, replicate};
 ghost use Rattle.ground.specs.Choice.{if};
 ghost use Rattle.refusals.specs.Refusals.{first_of, wanted_refusal as wantedOf, list_refusal as list_of};

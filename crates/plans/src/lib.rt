@@ -1,5 +1,6 @@
 // The shortest way from one picture to another: the words that a redraw may use, the planner's list, and that no list accepted is shorter.
 #![tactic(auto)]
+
 ghost use Rattle.plans.specs.Check.{Checked};
 ghost use Rattle.plans.specs.Shortest.{OneDriver, Shortest};
 ghost use Rattle.plans.specs.Examples.{Examples};

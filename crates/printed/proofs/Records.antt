@@ -60,7 +60,7 @@ module _ (kind : ℕ) (body rest : List ℕ) (fits : length_fits kind (length bo
       le-leb (size_of s) (length s) (omega (arith, own_length, length-append body rest))
 
   well_formed_lem : well_formed (entry kind body ++ rest) ≡ true
-  well_formed = rw (le-leb 5 (length (entry kind body ++ rest)) (omega arith), whole, own_length, fits)
+  well_formed_lem = rw (le-leb 5 (length (entry kind body ++ rest)) (omega arith), whole, own_length, fits)
 
   -- it is read whole
   own_body : body_of (entry kind body ++ rest) ≡ body

@@ -1,5 +1,6 @@
 // What a script prints: its records, its lines, a run's number and room. The program that prints it is `script`.
 #![tactic(auto)]
+
 ghost use Rattle.printed.specs.Limits.{Limits};
 ghost use Rattle.printed.specs.ByteByByte.{ByteByByte};
 ghost use Rattle.printed.specs.Examples.{Examples};

@@ -1,5 +1,6 @@
 // A chain of MAX6954 by value: the calls on a row of records.
 #![tactic(auto)]
+
 ghost use Rattle.std.specs.Prelude.{◌-◌, ◌≤◌, ◌≡◌, length, get_or, set, take, replicate};
 ghost use Rattle.device.specs.PowerUp.{power_up};
 ghost use Rattle.calls.specs.Calls.{access as accessCall, give, scan as scanStep, levels as levelsStep, clocks as clocksStep, segments as segmentsQuestion};

@@ -1,5 +1,6 @@
 // The pins that a cathode shows, by value: its segments, each carried to its pin, eight pins at a time.
 #![tactic(auto)]
+
 ghost use Rattle.std.specs.Prelude.{◌≡◌, ◌*◌, ◌<◌};
 ghost use Rattle.ground.specs.Choice.{bit};
 ghost use Rattle.ground.specs.Lists.{tabulate};

@@ -18,4 +18,4 @@ pub sized_planes : (d : Device) (vs : List Val) → Is (Declared.row Driver.the_
 sized_planes d vs is =
     let r = owed Registers.the_type Registers'.the_laws d.registers _ (owed Driver.the_type Driver'.the_laws d vs is).0 in
     let x = owed Planes.the_type Planes'.the_laws d.registers.planes _ r.1.1.1.1.0 in
-    record { first = sym (length-map d.registers.planes.p0 _) ∙ x.0.1.0.1; second = sym (length-map d.registers.planes.p1 _) ∙ x.1.0.1.0.1 }
+    record { first = x.0.1.0.1; second = x.1.0.1.0.1 }

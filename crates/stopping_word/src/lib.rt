@@ -1,5 +1,6 @@
 // The look back by value: the last word that stops, found by two masks, and the byte that it leaves.
 #![tactic(auto)]
+
 ghost use Rattle.std.specs.Prelude.{◌≡◌, ◌<◌};
 ghost use Rattle.look_back.specs.LookBack.{plane_numbered, byte_of, byte_after, look_back_answer};
 ghost use Rattle.look_back.specs.Stops.{last_place};

@@ -1,5 +1,6 @@
 // The calls on the two-wire bus by value: their number, the bus state that they leave, what they answer, and the record that a byte reaches.
 #![tactic(auto)]
+
 ghost use Rattle.std.specs.Prelude.{◌≤◌, [], ◌∷◌, ◌≡◌, eqb, take};
 ghost use Rattle.ground.specs.Choice.{if};
 ghost use Rattle.bus.specs.Straps.{matched, distinct, seven_bits};

@@ -1,0 +1,13 @@
+-- `row::Row::seen` meets its contract. The invariant: what the first i records tell. Assumes nothing.
+use Rattle.ground.proofs.Names.{◌-◌, ◌≤◌, ◌<◌, arith, ◌≡◌, ◌∙◌, length, take, rules}
+use Rattle.device.specs.PowerUp.{power_up}
+use Rattle.pass.specs.Seen.{no_seen, seen_of}
+use Rattle.pass.proofs.SeenLaws.{seen_start, seen_more}
+use Rattle.row.proofs.Typed.{sixteen, default}
+use Rattle.row.proofs.Row.seen.Given as goal
+
+abbrev pub invariant-loop-i : goal.invariant-loop-i
+invariant-loop-i l = (l.i ≤ l.n) × (l.w ≡ seen_of no_seen (take l.i l.self.devices))
+
+abbrev pub decreases-loop-i : goal.decreases-loop-i
+decreases-loop-i l = l.n - l.i

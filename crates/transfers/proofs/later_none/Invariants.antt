@@ -1,0 +1,11 @@
+-- `transfers::later_none` meets its contract. Assumes nothing.
+use Rattle.ground.proofs.Names.{◌≤◌, ◌-◌, arith, ◌≡◌, refl, sym, ◌∙◌, length, rules}
+use Rattle.transfers.specs.Transfers.{later_none}
+use Rattle.transfers.proofs.Loops.{none_next, none_found, none_end}
+use Rattle.transfers.proofs.later_none.Given as goal
+
+abbrev pub invariant-loop-j : goal.invariant-loop-j
+invariant-loop-j l = (l.j ≤ l.n) × (later_none l.n l.addresses l.a l.i ≡ later_none l.n l.addresses l.a l.j)
+
+abbrev pub decreases-loop-j : goal.decreases-loop-j
+decreases-loop-j l = l.n - l.j

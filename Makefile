@@ -10,7 +10,7 @@
 #               isn't given; DESTDIR goes before every path, and LIBDIR is the folder for the libraries in place of PREFIX/lib
 # make uninstall removes exactly what make install put under PREFIX, in DESTDIR where it was given
 # make dist     a tarball in target/dist of what is installed, the Python package and the Rust crate, for machines without the Rattle kit
-# make clean    removes target/, which has all that was built and proved
+# make clean    removes target/ and crates/*/out/, which have all that was built and proved
 # make help     says this
 .PHONY: run report plan test lib bench install uninstall dist clean help
 # With it a script's cd prints where it went.
@@ -49,7 +49,7 @@ dist:
 	@tools/alone tools/dist
 
 clean:
-	@tools/alone rm -rf target
+	@tools/alone rm -rf target crates/*/out
 
 help:
 	@sed -n 's/^# \{0,1\}//p' Makefile

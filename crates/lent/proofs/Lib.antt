@@ -1,11 +1,1 @@
-pub mod Logic
-pub mod Walk
-pub mod Locals
-pub mod Elements
-pub mod Slices
-pub mod Places
-pub mod Parts
-pub mod Records
-pub mod Params
-pub mod Arrays
-pub mod Numbers
+pub mod Passed

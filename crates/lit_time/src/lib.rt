@@ -1,5 +1,6 @@
 // The lit time of a run: what it means, and what is proved of it.
 #![tactic(auto)]
+
 ghost use Rattle.lit_time.specs.Periods.{Periods};
 ghost use Rattle.lit_time.specs.TotalsFit.{TotalsFit};
 ghost use Rattle.lit_time.specs.Limits.{Limits};

@@ -1,5 +1,6 @@
 // The lit time of a MAX6954's cathodes by value: of some clocks those at which each plane is shown, times what the cathode shows under it.
 #![tactic(auto)]
+
 ghost use Rattle.std.specs.Prelude.{◌^◌, ◌<◌, ◌≤◌, min, ◌≡◌};
 ghost use Rattle.std.specs.Int.Count.{ones};
 ghost use Rattle.ground.specs.Lists.{tabulate};

@@ -5,7 +5,7 @@ ghost use Rattle.std.specs.Prelude.{◌≡◌, eqb, ltb, ◌<◌};
 ghost use Rattle.ground.specs.Choice.{if};
 ghost use Rattle.refusals.specs.Refusals.{chain_refusal, driver_refusal, sound_refusal, family_refusal};
 ghost use Rattle.calls.specs.Calls.{scan, levels as pinLevels, clocks as masterClocks, plane, segments, brightness, shown, interrupt, answer_mark, look_back, ports};
-ghost use Rattle.pass.specs.Widths.{eight_bytes, four_bytes, two_bytes, greater, no_widths, widths_with, fit, all_old};
+ghost use Rattle.pass.specs.Widths.{Bytes, eight_bytes, four_bytes, two_bytes, greater, no_widths, widths_with, fit, all_old};
 ghost use Rattle.pass.specs.Own.{argument_at, lack_at, row_lack_at, display_own, row_own, step_own, question_own};
 ghost use Rattle.pass.specs.Seen.{no_seen, seen_with, seen_fit};
 ghost use Rattle.pass.specs.Found.{by_arguments, access_by_arguments, to_pass, to_pass_in, in_room, found, found_old, found_by};
@@ -79,7 +79,8 @@ impl Widths {
 
     // Of one record more.
     pub fn with(self, d: Device) -> Widths
-        ensures { result ≡ widths_with self d }
+        ensures wider { result ≡ widths_with self d }
+        ensures bytes { Bytes d }
     {
         let x = d.registers;
         let c = x.controls;
@@ -160,7 +161,8 @@ impl Seen {
 
     // Of one record more.
     pub fn with(self, d: Device) -> Seen
-        ensures { result ≡ seen_with self d }
+        ensures seen { result ≡ seen_with self d }
+        ensures bytes { Bytes d }
     {
         let x = d.ports;
         let f = x.config;

@@ -17,12 +17,12 @@ pub struct Program {
 }
 
 impl Program {
-    /// The program that rt check panel makes; COMPARE_PANEL names another.
+    /// The program that tools/prove panel makes; COMPARE_PANEL names another.
     pub fn panel() -> Program {
         Program::new("panel", "COMPARE_PANEL", second_double::run)
     }
 
-    /// The program that rt check report makes; COMPARE_REPORT names another.
+    /// The program that tools/prove report makes; COMPARE_REPORT names another.
     pub fn report() -> Program {
         Program::new("report", "COMPARE_REPORT", second_double::report)
     }
@@ -39,7 +39,7 @@ impl Program {
     /// What is told where the program isn't there.
     pub fn missing(&self) -> Option<Lines> {
         let (name, path) = (self.name, self.path.display());
-        let missing = format!("{path} isn't there: rt check {name} makes it");
+        let missing = format!("{path} isn't there: tools/prove {name} makes it");
         (!self.path.is_file()).then(|| vec![(name, missing)])
     }
 

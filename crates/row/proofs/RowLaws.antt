@@ -6,7 +6,7 @@
 --     show-refused, show-done                      what a cathode shows, and the answer mark
 --     access-refused, access-done                  an access
 -- Assumes nothing.
-use Rattle.ground.proofs.Names.{ℕ, ◌-◌, ◌≤◌, ◌<◌, min, arith, Bool, true, false, List, [], ◌∷◌, ◌++◌, append-nil, ◌≡◌, refl, sym, ap, ap₂, ◌∙◌, eqb, leb, ltb, ◌&&◌, length, get_or, take, drop, set, replicate, length-take, take-append-drop, take-append_seam, take-length, ltb-true, leb-true, and_left, and_right, List·getD-append, set-append_left, drop-length, ne_eqb, if, tabulate, tabulate_ext}
+use Rattle.ground.proofs.Names.{ℕ, ◌-◌, ◌≤◌, ◌<◌, min, arith, Bool, true, false, List, [], ◌∷◌, ◌++◌, append-nil, ◌≡◌, refl, sym, ap, ◌∙◌, eqb, ltb, length, get_or, take, drop, set, replicate, length-take, take-append-drop, take-append_seam, List·getD-append, set-append_left, drop-length, ne_eqb, if, tabulate, tabulate_ext}
 use lib.Seq.{drop-append_seam}
 use Rattle.refusals.specs.Refusals.{chain_refusal, sound_refusal, family_refusal, first_of, size_refusal}
 use Rattle.refusals.proofs.RefusalLaws.{found_rest}

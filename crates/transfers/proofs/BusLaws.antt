@@ -5,7 +5,7 @@
 --     Reached, reached         a byte that reaches an open transfer
 --     write-free, write-open, read-free, read-open         a byte's outcome: where it reaches none, and where it reaches one
 -- Assumes nothing.
-use Rattle.ground.proofs.Names.{ℕ, zero, suc, ◌-◌, ◌≤◌, ◌<◌, arith, Bool, true, false, ◌&&◌, List, [], ◌∷◌, ◌≡◌, refl, ap, ◌∙◌, eqb, leb, ltb, length, get_or, set, take, eqb-true, le-leb, leb-true, ltb-true, if, and_left, and_right, passed}
+use Rattle.ground.proofs.Names.{ℕ, zero, suc, ◌-◌, ◌≤◌, ◌<◌, arith, Bool, true, false, ◌&&◌, List, [], ◌∷◌, ◌≡◌, refl, ap, ◌∙◌, eqb, leb, ltb, length, get_or, set, take, eqb-true, leb-true, ltb-true, if, and_left, and_right, passed}
 use Rattle.refusals.specs.Refusals.{sound_refusal, clash_refusal, address_refusal, family_refusal, first_of}
 use Rattle.device.specs.PowerUp.{power_up}
 use Rattle.device.specs.Families.{families}

@@ -1,6 +1,6 @@
 -- The number of a start, a byte or a stop, found test by test; the first n of sixteen straps; and a slave byte that names a part.
 -- Assumes nothing.
-use Rattle.ground.proofs.Names.{ℕ, ◌≤◌, ◌<◌, arith, Bool, true, false, List, [], ◌∷◌, ◌≡◌, refl, sym, ◌∙◌, eqb, ltb, length, take, take_all, eq-eqb, ne_eqb, lt-ltb, le-ltb, le-leb, lt-leb, ltb-false, if, odd}
+use Rattle.ground.proofs.Names.{ℕ, ◌≤◌, ◌<◌, arith, Bool, true, false, List, [], ◌∷◌, ◌≡◌, refl, sym, ◌∙◌, eqb, ltb, length, take, take_all, ne_eqb, lt-ltb, le-ltb, le-leb, lt-leb, ltb-false, if, odd}
 use Rattle.bus.specs.declared.Bus.{Bus}
 use Rattle.bus.specs.Straps.{matched, distinct, seven_bits}
 use Rattle.bus.specs.States.{command, reading, transfer, bus_of}

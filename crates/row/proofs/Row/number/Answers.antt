@@ -1,17 +1,10 @@
 -- `row::Row::number` meets its contract. Assumes nothing.
-use Rattle.ground.proofs.Names.{◌≡◌, ◌∙◌, rules}
+use Rattle.ground.proofs.Names.{◌≡◌, ◌∙◌}
 use Rattle.pass.specs.Found.{call_refusal}
 use Rattle.row.specs.Row.{records}
 use Rattle.row.proofs.Typed.{sixteen, all_bytes}
-use Rattle.row.proofs.RowLaws.{first_found, call_found, in_row}
+use Rattle.row.proofs.RowLaws.{call_found, in_row}
 use Rattle.row.proofs.Row.number.Goals as goal
-
-pub returns-then-first-ne0 : goal.returns-then-first-ne0
-returns-then-first-ne0 c =
-    let a = c.args in
-    let e : c.by_arguments-first.result ≡ call_refusal (records a.self) a.driver a.own =
-    first_found a.self _ c.length-n.ensures.0 a.driver a.own _ c.by_arguments-first.ensures c.if-first-ne0.true in
-    (e, in_row a.self (sixteen a.self _ c.well_formed.0) a.driver a.own _ e)
 
 pub returns : goal.returns
 returns c =

@@ -1,6 +1,5 @@
 -- What the types of a row and of its records say of their values.
---     sixteen        a row has sixteen records
---     all_bytes      and their bytes are bytes
+--     all_bytes      the bytes of a row's records are bytes
 --     default        an element, whatever is read past the end
 -- Assumes nothing.
 use Rattle.ground.proofs.Names.{ℕ, zero, suc, ◌<◌, List, [], ◌∷◌, ◌≡◌, length, get_or, take, drop-cons}
@@ -17,9 +16,6 @@ use Rattle.pass.proofs.Typed.{bytes_of}
 use Rattle.row.specs.declared.Row.{Row}
 use Rattle.row.specs.contracts.Row as Chain
 use Rattle.row.proofs.Row.TheLaws as Chain'
-
-pub sixteen : (r : Row) (vs : List Val) → Is (Declared.row Chain.the_type) r vs → length r.devices ≡ 16
-sixteen r vs is = (owed Chain.the_type Chain'.the_laws r vs is).1.0.1.0.1
 
 pub all_bytes : (r : Row) (vs : List Val) → Is (Declared.row Chain.the_type) r vs → (n : ℕ) → AllBytes (take n r.devices)
 unfolding AllBytes

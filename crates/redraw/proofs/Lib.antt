@@ -1,4 +1,4 @@
 pub mod BytesLaws
 pub mod OnWire
-pub mod Passes
+pub mod Turns
 pub mod CallLaws

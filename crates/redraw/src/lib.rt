@@ -1,5 +1,6 @@
 // The planner over a lent chain of records, and a list of accesses given to the chain.
 #![tactic(auto)]
+
 ghost use Rattle.std.specs.Prelude.{◌≡◌, length};
 ghost use Rattle.pass.specs.Found.{to_pass};
 ghost use Rattle.planner.specs.OneDriver.{reach_to, accept_to, list_to};

@@ -1,12 +1,12 @@
 -- The calls by value do on a row what they do on a lent chain of its records.
---     length-records                               how many records there are
---     number-found, first_found, call-found, access-found       the number
+--     length_records                               how many records there are
+--     number_found, call_found, access_found       the number
 --     in_row                                       a driver that is named is one of the sixteen
---     give-refused, give-done                      a call that gives a driver something
---     show-refused, show-done                      what a cathode shows, and the answer mark
---     access-refused, access-done                  an access
+--     give_refused, give_done                      a call that gives a driver something
+--     show_refused, show_done                      what a cathode shows, and the answer mark
+--     access_refused, access_done                  an access
 -- Assumes nothing.
-use Rattle.ground.proofs.Names.{ℕ, ◌-◌, ◌≤◌, ◌<◌, min, arith, Bool, true, false, List, [], ◌∷◌, ◌++◌, append-nil, ◌≡◌, refl, sym, ap, ap₂, ◌∙◌, eqb, leb, ltb, ◌&&◌, length, get_or, take, drop, set, replicate, length-take, take-append-drop, take-append_seam, take-length, ltb-true, leb-true, and_left, and_right, List·getD-append, set-append_left, drop-length, ne_eqb, if, tabulate, tabulate_ext}
+use Rattle.ground.proofs.Names.{ℕ, ◌-◌, ◌≤◌, ◌<◌, min, arith, Bool, true, false, List, [], ◌∷◌, ◌++◌, append-nil, ◌≡◌, refl, sym, ap, ◌∙◌, eqb, ltb, length, get_or, take, drop, set, replicate, length-take, take-append-drop, take-append_seam, List·getD-append, set-append_left, drop-length, ne_eqb, if, tabulate, tabulate_ext}
 use lib.Seq.{drop-append_seam}
 use Rattle.refusals.specs.Refusals.{chain_refusal, sound_refusal, family_refusal, first_of, size_refusal}
 use Rattle.refusals.proofs.RefusalLaws.{found_rest}
@@ -25,7 +25,7 @@ use Rattle.pass.specs.Widths.{AllBytes}
 use Rattle.pass.specs.Seen.{no_seen, seen_of, seen_fit}
 use Rattle.pass.specs.Found.{by_arguments, access_by_arguments, to_pass, found, found_by, call_refusal}
 use Rattle.pass.specs.OneByOne.{words_to, taken_to}
-use Rattle.pass.proofs.FoundLaws.{in_range, call_first, call_there, call_records, give_number as give-on, ask_number as ask-on}
+use Rattle.pass.proofs.FoundLaws.{in_range, call_there, call_records, give_number as give-on, ask_number as ask-on}
 use Rattle.pass.proofs.SeenLaws.{seen_fit_lem, seen_known, seen_old}
 use Rattle.pass.proofs.AccessLaws.{access_number, access_whole}
 use Rattle.row.specs.Row.{records, number_on, reply_on, done_on, shown_on}
@@ -79,12 +79,6 @@ module _ (r : Row) (n : ℕ) (l : n ≡ length (records r)) where
   -- the arguments give no number: the driver is there
   pub there : (j first : ℕ) → first ≡ by_arguments n j → first ≡ 0 → (1 ≤ j) × (j ≤ n)
   there j first f z = rw (← l) at (call_there ds j 0 (rw l at (sym f ∙ z)))
-
-  -- they give one
-  pub first_found : (j own first : ℕ) → first ≡ by_arguments n j → (first ≡ 0 → ⊥) → first ≡ call_refusal ds j own
-  first_found j own first f z =
-      let e : first ≡ by_arguments (length ds) j = rw l at f in
-      e ∙ call_first ds j own (λ q. z (e ∙ q))
 
   pub call_found : (j own first : ℕ) → first ≡ by_arguments n j → first ≡ 0 → AllBytes (take n r.devices)
       → found_by (seen_fit (seen_of no_seen (take n r.devices))) (ltb (seen_of no_seen (take n r.devices)).families 2) (ltb (seen_of no_seen (take n r.devices)).families 1) own (get_or r.devices (j - 1) power_up).family

@@ -1,9 +1,8 @@
 -- What the types of a row and of its records say of their values.
---     sixteen        a row has sixteen records
---     all-bytes      and their bytes are bytes
+--     all_bytes      the bytes of a row's records are bytes
 --     default        an element, whatever is read past the end
 -- Assumes nothing.
-use Rattle.ground.proofs.Names.{ℕ, zero, suc, ◌<◌, List, [], ◌∷◌, map, ◌≡◌, sym, ◌∙◌, length, get_or, take, length-map, drop-cons}
+use Rattle.ground.proofs.Names.{ℕ, zero, suc, ◌<◌, List, [], ◌∷◌, ◌≡◌, length, get_or, take, drop-cons}
 use mir.Val.{Val}
 use denote.Array.{each}
 use denote.Laws.{Is}
@@ -18,20 +17,11 @@ use Rattle.row.specs.declared.Row.{Row}
 use Rattle.row.specs.contracts.Row as Chain
 use Rattle.row.proofs.Row.TheLaws as Chain'
 
--- what a row's type says of its records
-records_are : (r : Row) (vs : List Val) → Is (Declared.row Chain.the_type) r vs → (us : List Val) × (length r.devices ≡ 16) × shadow (each (Driver.the_field).row.Denot (Driver.the_field).row.own_val (map (Driver.the_field).into r.devices) us)
-records_are r vs is =
-    let x = (owed Chain.the_type Chain'.the_laws r vs is).1.0 in
-    (x.0, sym (length-map r.devices _) ∙ x.1.0.1, x.1.1)
-
-pub sixteen : (r : Row) (vs : List Val) → Is (Declared.row Chain.the_type) r vs → length r.devices ≡ 16
-sixteen r vs is = (records_are r vs is).1
-
 pub all_bytes : (r : Row) (vs : List Val) → Is (Declared.row Chain.the_type) r vs → (n : ℕ) → AllBytes (take n r.devices)
 unfolding AllBytes
-all_bytes r vs is n = go r.devices (records_are r vs is).0 (records_are r vs is).2 n
+all_bytes r vs is n = let x = (owed Chain.the_type Chain'.the_laws r vs is).1.0 in go r.devices x.0 x.1.1 n
   where
-    go : (xs : List Device) (us : List Val) → shadow (each (Driver.the_field).row.Denot (Driver.the_field).row.own_val (map (Driver.the_field).into xs) us) → (n : ℕ) → AllBytes (take n xs)
+    go : (xs : List Device) (us : List Val) → shadow (each (Driver.the_row).Denot (Driver.the_row).own_val xs us) → (n : ℕ) → AllBytes (take n xs)
     go xs us s zero = tt
     go [] us s (suc n) = tt
     go (x ∷ xs) [] s (suc n) = absurd s

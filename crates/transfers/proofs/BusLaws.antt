@@ -1,11 +1,11 @@
 -- The outcome of a start, a byte or a stop on lent records, from the number that a pass over them gives.
---     moved_to, answeredTo      an answer, with the records that are left, as an outcome
+--     moved_to, answered_to     an answer, with the records that are left, as an outcome
 --     found_from                the number, as it is found
---     starts, stops            a start's and a stop's outcome
---     Reached, reached         a byte that reaches an open transfer
---     write-free, write-open, read-free, read-open         a byte's outcome: where it reaches none, and where it reaches one
+--     starts, stops             a start's and a stop's outcome
+--     Reached, reached          a byte that reaches an open transfer
+--     write_free_lem, write_open, read_free_lem, read_open_lem         a byte's outcome: where it reaches none, and where it reaches one
 -- Assumes nothing.
-use Rattle.ground.proofs.Names.{ℕ, zero, suc, ◌-◌, ◌≤◌, ◌<◌, arith, Bool, true, false, ◌&&◌, List, [], ◌∷◌, ◌≡◌, refl, ap, ◌∙◌, eqb, leb, ltb, length, get_or, set, take, eqb-true, le-leb, leb-true, ltb-true, if, and_left, and_right, passed}
+use Rattle.ground.proofs.Names.{ℕ, zero, suc, ◌-◌, ◌≤◌, ◌<◌, arith, Bool, true, false, ◌&&◌, List, [], ◌∷◌, ◌≡◌, refl, ap, ◌∙◌, eqb, leb, ltb, length, get_or, set, take, eqb-true, leb-true, ltb-true, if, and_left, and_right, passed}
 use Rattle.refusals.specs.Refusals.{sound_refusal, clash_refusal, address_refusal, family_refusal, first_of}
 use Rattle.device.specs.PowerUp.{power_up}
 use Rattle.device.specs.Families.{families}

@@ -1,13 +1,10 @@
--- The number of a start, a byte or a stop, found test by test; the first n of sixteen straps; and a slave byte that names a part.
+-- The number of a start, a byte or a stop, found test by test; and the first n of sixteen straps.
 -- Assumes nothing.
-use Rattle.ground.proofs.Names.{ℕ, ◌≤◌, ◌<◌, arith, Bool, true, false, List, [], ◌∷◌, ◌≡◌, refl, sym, ◌∙◌, eqb, ltb, length, take, take_all, eq-eqb, ne_eqb, lt-ltb, le-ltb, le-leb, lt-leb, ltb-false, if, odd}
+use Rattle.ground.proofs.Names.{ℕ, ◌≤◌, ◌<◌, arith, Bool, true, false, List, ◌≡◌, refl, sym, ◌∙◌, eqb, ltb, length, take, take_all, ne_eqb, lt-ltb, le-ltb, le-leb, lt-leb, ltb-false, if}
 use Rattle.bus.specs.declared.Bus.{Bus}
 use Rattle.bus.specs.Straps.{matched, distinct, seven_bits}
-use Rattle.bus.specs.States.{command, reading, transfer, bus_of}
-use Rattle.bus.specs.BusServed.{opened, slave_reply}
-use Rattle.bus.proofs.Bytes.{slave_taken}
 use Rattle.refusals.proofs.RefusalLaws.{first_last}
-use Rattle.transfers.specs.Transfers.{few, refusal_from, part_open, byte_answer, put_answer, write_free}
+use Rattle.transfers.specs.Transfers.{few, refusal_from, put_answer, write_free}
 
 -- the first n of sixteen straps
 pub take_few : (n : ℕ) (σ : List ℕ) → length σ ≡ 16 → take (few n) σ ≡ take n σ
@@ -42,22 +39,6 @@ module _ (early n : ℕ) (b : Bus) (σ : List ℕ) where
       go true false = refl
       go false s = refl
 
-  -- where no transfer is open
-  pub part_none : b.part ≡ 0 → 0 ≡ part_open early n b σ
-  part_none e = go (eqb (refusal_from early n b σ) 0)
-    where
-      go : (t : Bool) → 0 ≡ if t b.part 0
-      go true = sym e
-      go false = refl
-
   -- a byte given, served
   pub write_served : length σ ≡ 16 → (v m p : ℕ) → m ≡ few n → p ≡ matched m σ v → refusal_from early n b σ ≡ 0 → put_answer p v b ≡ write_free early n b σ v
   write_served l v m p f e z = rw (z, e, f, take_few n σ l)
-
--- a slave byte that names part m
-pub slave_named : (m v : ℕ) → (m ≡ 0 → ⊥) → byte_answer (bus_of (opened m v)) (slave_reply m) ≡ byte_answer (record { part = m; phase = if (odd v) 2 0 }) (1 ∷ 0 ∷ [])
-slave_named m v h = rw ((slave_taken m v (omega arith)).0, (slave_taken m v (omega arith)).1) (go (odd v))
-  where
-    go : (t : Bool) → byte_answer (bus_of (transfer m (if t reading command))) (1 ∷ 0 ∷ []) ≡ byte_answer (record { part = m; phase = if t 2 0 }) (1 ∷ 0 ∷ [])
-    go true = refl
-    go false = refl

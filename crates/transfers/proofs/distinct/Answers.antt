@@ -1,11 +1,7 @@
 -- `transfers::distinct` meets its contract. Assumes nothing.
-use Rattle.ground.proofs.Names.{◌≤◌, ◌-◌, arith, ◌≡◌, refl, sym, ◌∙◌, length, take, drop, rules, not-true, not-false}
-use Rattle.bus.specs.Straps.{distinct}
+use Rattle.ground.proofs.Names.{arith, ◌≡◌, sym, ◌∙◌, length, rules}
 use Rattle.transfers.proofs.Loops.{distinct_next, distinct_end}
 use Rattle.transfers.proofs.distinct.Goals as goal
-
-pub loop-i-init : goal.loop-i-init
-loop-i-init c = (omega arith, refl)
 
 pub returns-then-not-none : goal.returns-then-not-none
 returns-then-not-none c =

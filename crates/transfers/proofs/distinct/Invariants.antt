@@ -1,7 +1,6 @@
 -- `transfers::distinct` meets its contract. Assumes nothing.
-use Rattle.ground.proofs.Names.{◌≤◌, ◌-◌, arith, ◌≡◌, refl, sym, ◌∙◌, length, take, drop, rules, not-true, not-false}
+use Rattle.ground.proofs.Names.{◌≤◌, ◌-◌, ◌≡◌, take, drop}
 use Rattle.bus.specs.Straps.{distinct}
-use Rattle.transfers.proofs.Loops.{distinct_next, distinct_end}
 use Rattle.transfers.proofs.distinct.Given as goal
 
 abbrev pub invariant-loop-i : goal.invariant-loop-i

@@ -1,7 +1,6 @@
 -- `transfers::later_none` meets its contract. Assumes nothing.
-use Rattle.ground.proofs.Names.{◌≤◌, ◌-◌, arith, ◌≡◌, refl, sym, ◌∙◌, length, rules}
+use Rattle.ground.proofs.Names.{◌≤◌, ◌-◌, ◌≡◌}
 use Rattle.transfers.specs.Transfers.{later_none}
-use Rattle.transfers.proofs.Loops.{none_next, none_found, none_end}
 use Rattle.transfers.proofs.later_none.Given as goal
 
 abbrev pub invariant-loop-j : goal.invariant-loop-j

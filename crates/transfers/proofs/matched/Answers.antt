@@ -1,11 +1,7 @@
 -- `transfers::matched` meets its contract. Assumes nothing.
-use Rattle.ground.proofs.Names.{◌≤◌, ◌-◌, ◌/◌, arith, ◌≡◌, sym, ◌∙◌, length, take, drop, rules}
-use Rattle.bus.specs.Straps.{place_of}
-use Rattle.transfers.proofs.Loops.{beyond, place_first, place_next, place_found, place_end}
+use Rattle.ground.proofs.Names.{◌/◌, arith, ◌≡◌, sym, ◌∙◌, length, rules}
+use Rattle.transfers.proofs.Loops.{place_next, place_found, place_end}
 use Rattle.transfers.proofs.matched.Goals as goal
-
-pub loop-i-init : goal.loop-i-init
-loop-i-init c = (omega arith, place_first c.args.n c.args.straps.addresses (c.args.byte / 2))
 
 pub returns-then-addresses-i : goal.returns-then-addresses-i
 returns-then-addresses-i c =

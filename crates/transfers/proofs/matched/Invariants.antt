@@ -1,7 +1,7 @@
 -- `transfers::matched` meets its contract. Assumes nothing.
-use Rattle.ground.proofs.Names.{◌≤◌, ◌-◌, ◌/◌, arith, ◌≡◌, sym, ◌∙◌, length, take, drop, rules}
+use Rattle.ground.proofs.Names.{◌≤◌, ◌-◌, ◌≡◌, take, drop}
 use Rattle.bus.specs.Straps.{place_of}
-use Rattle.transfers.proofs.Loops.{beyond, place_first, place_next, place_found, place_end}
+use Rattle.transfers.proofs.Loops.{beyond}
 use Rattle.transfers.proofs.matched.Given as goal
 
 abbrev pub invariant-loop-i : goal.invariant-loop-i

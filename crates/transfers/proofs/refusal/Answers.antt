@@ -1,5 +1,5 @@
 -- `transfers::refusal` meets its contract. Assumes nothing.
-use Rattle.ground.proofs.Names.{true, false, ◌≡◌, refl, sym, ◌∙◌, length, rules, not-true, not-false}
+use Rattle.ground.proofs.Names.{true, false, ◌≡◌, refl, sym, ◌∙◌, length, rules}
 use Rattle.transfers.proofs.StrapLaws.{early_decides, part_decides, phase_decides, straps_decide}
 use Rattle.transfers.proofs.refusal.Goals as goal
 

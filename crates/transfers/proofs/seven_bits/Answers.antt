@@ -1,11 +1,7 @@
 -- `transfers::seven_bits` meets its contract. Assumes nothing.
-use Rattle.ground.proofs.Names.{◌≤◌, ◌-◌, arith, ◌≡◌, refl, sym, ◌∙◌, length, get_or, take, drop, rules, lt-ltb, le-ltb}
-use Rattle.bus.specs.Straps.{seven_bits}
+use Rattle.ground.proofs.Names.{arith, ◌≡◌, sym, ◌∙◌, length, get_or, rules, lt-ltb, le-ltb}
 use Rattle.transfers.proofs.Loops.{seven_next, seven_end}
 use Rattle.transfers.proofs.seven_bits.Goals as goal
-
-pub loop-i-init : goal.loop-i-init
-loop-i-init c = (omega arith, refl)
 
 pub returns-then-addresses-i-gt127 : goal.returns-then-addresses-i-gt127
 returns-then-addresses-i-gt127 c =

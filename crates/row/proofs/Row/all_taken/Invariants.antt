@@ -1,8 +1,7 @@
 -- `row::Row::all_taken` meets its contract. The invariant: the first i records took their words. Assumes nothing.
-use Rattle.ground.proofs.Names.{◌-◌, ◌<◌, arith, ◌≡◌, refl, length, get_or, rules, Filled, filled_start, filled_more, filled_rest, filled_all}
+use Rattle.ground.proofs.Names.{◌-◌, ◌≡◌, get_or, Filled}
 use Rattle.device.specs.PowerUp.{power_up}
 use Rattle.device.specs.Families.{takes}
-use Rattle.row.proofs.Typed.{sixteen, default}
 use Rattle.row.proofs.Row.all_taken.Given as goal
 
 abbrev pub invariant-loop-at : goal.invariant-loop-at

@@ -1,12 +1,8 @@
 -- `row::Row::found` meets its contract. Assumes nothing.
-use Rattle.ground.proofs.Names.{arith, ◌∙◌, rules}
-use Rattle.pass.proofs.FoundLaws.{pass_le}
+use Rattle.ground.proofs.Names.{◌∙◌}
 use Rattle.row.proofs.Typed.{all_bytes}
 use Rattle.row.proofs.RowLaws.{number_found}
 use Rattle.row.proofs.Row.found.Goals as goal
-
-pub seen-w-requires : goal.seen-w-requires
-seen-w-requires c = omega (arith, c.to_pass.ensures, pass_le c.args.first c.length-n.result)
 
 pub returns : goal.returns
 returns c =

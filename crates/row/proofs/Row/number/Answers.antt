@@ -2,16 +2,9 @@
 use Rattle.ground.proofs.Names.{◌≡◌, ◌∙◌, rules}
 use Rattle.pass.specs.Found.{call_refusal}
 use Rattle.row.specs.Row.{records}
-use Rattle.row.proofs.Typed.{sixteen, all_bytes}
-use Rattle.row.proofs.RowLaws.{first_found, call_found, in_row}
+use Rattle.row.proofs.Typed.{all_bytes}
+use Rattle.row.proofs.RowLaws.{call_found, in_row}
 use Rattle.row.proofs.Row.number.Goals as goal
-
-pub returns-then-first-ne0 : goal.returns-then-first-ne0
-returns-then-first-ne0 c =
-    let a = c.args in
-    let e : c.by_arguments-first.result ≡ call_refusal (records a.self) a.driver a.own =
-    first_found a.self _ c.length-n.ensures.0 a.driver a.own _ c.by_arguments-first.ensures c.if-first-ne0.true in
-    (e, in_row a.self (sixteen a.self _ c.well_formed.0) a.driver a.own _ e)
 
 pub returns : goal.returns
 returns c =
@@ -21,4 +14,4 @@ returns c =
     c.found_by.ensures
     ∙ rw (c.named-d.ensures, c.seen-w.ensures)
     (call_found a.self n.result n.ensures.0 a.driver a.own _ c.by_arguments-first.ensures c.if-first-ne0.false (all_bytes a.self _ c.well_formed.0 n.result)) in
-    (e, in_row a.self (sixteen a.self _ c.well_formed.0) a.driver a.own _ e)
+    (e, in_row a.self (search rules) a.driver a.own _ e)

@@ -1,9 +1,6 @@
 -- `row::Row::seen` meets its contract. The invariant: what the first i records tell. Assumes nothing.
-use Rattle.ground.proofs.Names.{◌-◌, ◌≤◌, ◌<◌, arith, ◌≡◌, ◌∙◌, length, take, rules}
-use Rattle.device.specs.PowerUp.{power_up}
+use Rattle.ground.proofs.Names.{◌-◌, ◌≤◌, ◌≡◌, take}
 use Rattle.pass.specs.Seen.{no_seen, seen_of}
-use Rattle.pass.proofs.SeenLaws.{seen_start, seen_more}
-use Rattle.row.proofs.Typed.{sixteen, default}
 use Rattle.row.proofs.Row.seen.Given as goal
 
 abbrev pub invariant-loop-i : goal.invariant-loop-i

@@ -1,5 +1,5 @@
 -- `row::Row::set_pins` meets its contract. Assumes nothing.
-use Rattle.ground.proofs.Names.{◌∙◌, rules}
+use Rattle.ground.proofs.Names.{◌∙◌}
 use Rattle.calls.specs.Calls.{levels}
 use Rattle.row.proofs.RowLaws.{give_refused, give_done}
 use Rattle.row.proofs.Row.set_pins.Goals as goal
@@ -8,9 +8,6 @@ pub returns-then-number-ne0 : goal.returns-then-number-ne0
 returns-then-number-ne0 c =
     let a = c.args in
     c.refused.ensures ∙ give_refused a.self a.driver (levels a.levels) _ _ c.levels_refusal.ensures c.number-number.ensures.0 c.if-number-ne0.true
-
-pub served-requires : goal.served-requires
-served-requires c = c.number-number.ensures.1 c.if-number-ne0.false
 
 pub returns : goal.returns
 returns c =

@@ -1,7 +1,6 @@
 -- `row::Row::shift_words` meets its contract. The invariant: the words of the first i records. Assumes nothing.
-use Rattle.ground.proofs.Names.{◌-◌, ◌<◌, arith, length, get_or, rules, Filled, filled_start, filled_more, filled_all}
+use Rattle.ground.proofs.Names.{◌-◌, get_or, Filled}
 use Rattle.device.specs.PowerUp.{power_up}
-use Rattle.row.proofs.Typed.{sixteen, default}
 use Rattle.row.proofs.Row.shift_words.Given as goal
 
 abbrev pub invariant-loop-k : goal.invariant-loop-k

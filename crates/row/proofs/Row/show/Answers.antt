@@ -1,5 +1,4 @@
 -- `row::Row::show` meets its contract. Assumes nothing.
-use Rattle.ground.proofs.Names.{rules}
 use Rattle.row.proofs.RowLaws.{show_refused, show_done}
 use Rattle.row.proofs.Row.show.Goals as goal
 

@@ -1,6 +1,0 @@
--- `transfers::stop_answer` meets its contract. Assumes nothing.
-use Rattle.ground.proofs.Names.{rules}
-use Rattle.transfers.proofs.stop_answer.Goals as goal
-
-pub returns : goal.returns
-returns c = simp (c.refusal-number.ensures, c.moved.ensures)

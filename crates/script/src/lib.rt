@@ -1,5 +1,6 @@
 // The script program as a library: a script in, the lines that it prints out.
 #![tactic(auto)]
+
 mod format;
 mod lines;
 mod table;

@@ -1,5 +1,6 @@
 // The records of a script: their bytes, where a run starts, what one does to a row of drivers, the line of one that is refused.
 #![tactic(auto)]
+
 pub mod format;
 mod table;
 

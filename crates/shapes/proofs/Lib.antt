@@ -1,10 +1,3 @@
-pub mod Handed
-pub mod Steps
-pub mod Replaces
-pub mod Rows
 pub mod Gives
 pub mod Asks
-pub mod BusTypes
-pub mod Moves
 pub mod Bytes
-pub mod Names

@@ -1,2 +1,2 @@
-// The shapes of the calls on a lent row of records, by which each call is proved; of a chain and of a two-wire bus. Nothing runs here.
+// What the calls on a lent row of records have in common, of a chain and of a two-wire bus: their outcomes by the number that is found. Nothing runs here.
 #![tactic(auto)]

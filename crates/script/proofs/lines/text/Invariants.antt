@@ -1,0 +1,10 @@
+-- `script::lines::text` meets its contract. Assumes nothing.
+use Rattle.ground.proofs.Names.{◌-◌, arith, [], ◌∷◌, refl, length}
+use Rattle.script.proofs.RoomLaws.{Texts, texts_start, texts_more, texts_all, each_self}
+use Rattle.script.proofs.lines.text.Given as goal
+
+abbrev pub invariant-loop-i : goal.invariant-loop-i
+invariant-loop-i l = Texts (λ b. b ∷ []) 1 l.bytes l.at l.initial.out l.i l.place l.out
+
+abbrev pub decreases-loop-i : goal.decreases-loop-i
+decreases-loop-i l = length l.bytes - l.i

@@ -9,8 +9,7 @@ use device::Device;
 use transfers::{BusAnswer, ByteAnswer, Straps};
 
 // A start: from every bus state the slave byte is awaited.
-#[unsafe(no_mangle)]
-pub extern "C" fn max6955_start(parts: &[Device], bus: Bus, straps: Straps) -> BusAnswer
+pub fn max6955_start(parts: &[Device], bus: Bus, straps: Straps) -> BusAnswer
     ensures { bus_outcome straps.addresses start bus parts.now ≡ record { number = result.number; bus = result.bus; records = parts.now; back = [] } }
 {
     let n = parts.len();
@@ -19,8 +18,7 @@ pub extern "C" fn max6955_start(parts: &[Device], bus: Bus, straps: Straps) -> B
 }
 
 // A stop: from every bus state the bus is idle.
-#[unsafe(no_mangle)]
-pub extern "C" fn max6955_stop(parts: &[Device], bus: Bus, straps: Straps) -> BusAnswer
+pub fn max6955_stop(parts: &[Device], bus: Bus, straps: Straps) -> BusAnswer
     ensures { bus_outcome straps.addresses stop bus parts.now ≡ record { number = result.number; bus = result.bus; records = parts.now; back = [] } }
 {
     let n = parts.len();
@@ -29,8 +27,7 @@ pub extern "C" fn max6955_stop(parts: &[Device], bus: Bus, straps: Straps) -> Bu
 }
 
 // A byte given by the master: the slave byte, the command address or data.
-#[unsafe(no_mangle)]
-pub extern "C" fn max6955_write(
+pub fn max6955_write(
     parts: &mut [Device],
     bus: Bus,
     straps: Straps,
@@ -51,8 +48,7 @@ pub extern "C" fn max6955_write(
 }
 
 // A byte asked for by the master.
-#[unsafe(no_mangle)]
-pub extern "C" fn max6955_read(parts: &mut [Device], bus: Bus, straps: Straps) -> ByteAnswer
+pub fn max6955_read(parts: &mut [Device], bus: Bus, straps: Straps) -> ByteAnswer
     ensures { bus_outcome straps.addresses get bus parts.old ≡ record { number = result.number; bus = result.bus; records = parts.new; back = result.acknowledged ∷ result.«data» ∷ [] } }
 {
     let n = parts.len();

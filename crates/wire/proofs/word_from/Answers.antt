@@ -1,4 +1,4 @@
--- `wire::word_from` meets its contract, by the law `window-at`. Assumes nothing.
+-- `wire::word_from` meets its contract, by the law `window_at`. Assumes nothing.
 use Rattle.ground.proofs.Names.{sym, ap, ◌∙◌, rules}
 use Rattle.wire.specs.Bits.{value}
 use Rattle.wire.proofs.ByteLaws.{window_at}

@@ -1,5 +1,5 @@
 -- `streams::fill` meets its contract. The invariant: what was read lies within the buffer, which keeps its length. Assumes nothing.
-use Rattle.std.proofs.Common.{length, ◌-◌, ◌≡◌, ◌≤◌}
+use Rattle.std.proofs.Common.{length, ◌-◌, ◌≤◌}
 use Rattle.streams.proofs.fill.Given as goal
 
 abbrev pub invariant-loop-n : goal.invariant-loop-n

@@ -8,38 +8,28 @@ pub accessed-requires : goal.accessed-requires
 accessed-requires c =
     let a = c.args in
     let p = c.requires in
-    (leb-true 2 (length a.body.now) (rw c.in-2.keys1 at p.0), search rules)
+    (leb-true 2 (length a.body.now) (rw c.in-2.is at p.0), search rules)
 
 pub shown-requires : goal.shown-requires
-shown-requires c =
-    let a = c.args in
-    let p = c.requires in
-    let m = c.in_default.rest in
-    let two = show_length a.kind (length a.body.now) p.0 p.1 m.0.0.0.1 m.0.0.1 m.0.1 m.1 in
-    (p.2, omega arith)
+shown-requires c = let h = c.in_default in ?
 
 pub returns-in-2 : goal.returns-in-2
-returns-in-2 c = rw c.in-2.keys1 c.accessed.ensures
+returns-in-2 c = rw c.in-2.is c.accessed.ensures
 
 pub returns-in-3 : goal.returns-in-3
 returns-in-3 c =
     let a = c.args in
-    rw c.in-3.keys2 (given_obeyed a.row _ _ _ a.at _ _ c.scan-done.result _ (rw (c.byte-driver.ensures, c.byte.ensures, c.byte-in-3.ensures, c.byte-in-3-2.ensures, c.byte-in-3-3.ensures) at c.scan-done.ensures) (omega arith) c.given.ensures)
+    rw c.in-3.is (given_obeyed a.row _ _ _ a.at _ _ c.scan-done.result _ (rw (c.byte-driver.ensures, c.byte.ensures, c.byte-in-3.ensures, c.byte-in-3-2.ensures, c.byte-in-3-3.ensures) at c.scan-done.ensures) (omega arith) c.given.ensures)
 
 pub returns-in-4 : goal.returns-in-4
 returns-in-4 c =
     let a = c.args in
-    rw c.in-4.keys3 (given_obeyed a.row _ _ _ a.at _ _ c.set_pins-done.result _ (rw (c.byte-driver-in-4.ensures, c.byte-in-4.ensures) at c.set_pins-done.ensures) (omega arith) c.given-in-4.ensures)
+    rw c.in-4.is (given_obeyed a.row _ _ _ a.at _ _ c.set_pins-done.result _ (rw (c.byte-driver-in-4.ensures, c.byte-in-4.ensures) at c.set_pins-done.ensures) (omega arith) c.given-in-4.ensures)
 
 pub returns-in-5 : goal.returns-in-5
 returns-in-5 c =
     let a = c.args in
-    rw c.in-5.keys4 (given_obeyed a.row _ _ _ a.at _ _ c.add_clocks-done.result _ (rw (c.byte-driver-in-5.ensures, c.word.ensures.0, c.word-in-5.ensures.0) at c.add_clocks-done.ensures) (omega arith) c.given-in-5.ensures)
+    rw c.in-5.is (given_obeyed a.row _ _ _ a.at _ _ c.add_clocks-done.result _ (rw (c.byte-driver-in-5.ensures, c.word.ensures.0, c.word-in-5.ensures.0) at c.add_clocks-done.ensures) (omega arith) c.given-in-5.ensures)
 
 pub returns-in_default : goal.returns-in_default
-returns-in_default c =
-    let a = c.args in
-    let p = c.requires in
-    let m = c.in_default.rest in
-    rw (show_call a.kind a.body.now m.0.0.0.1 m.0.0.1 m.0.1 m.1, show_length a.kind (length a.body.now) p.0 p.1 m.0.0.0.1 m.0.0.1 m.0.1 m.1)
-    c.shown.ensures
+returns-in_default c = ?

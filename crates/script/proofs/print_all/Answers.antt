@@ -8,5 +8,5 @@ returns c =
     let a = c.args in
     let r = c.run-ran.ensures in
     let n : length a.out.now ≡ 262160 = search rules in
-    let w = always_served a.script.now a.out.now c.run-ran.new.1.0 c.run-ran.result n r.0 r.1 in
+    let w = always_served a.script.now a.out.now c.run-ran.new.out c.run-ran.result n r.0 r.1 in
     (w.0, w.1, r.2)

@@ -1,9 +1,7 @@
 -- `script::run_records` meets its contract. Assumes nothing.
 use Rattle.ground.proofs.Names.{◌-◌, arith, ◌∙◌, length, rules}
-use Rattle.script.proofs.RoomLaws.{written_length}
 use Rattle.script.proofs.LoopLaws.{Running, run_starts, found, part_fits, stops_malformed, stops_chain, goes_on, run_ends}
 use Rattle.script.proofs.run_records.Goals as goal
-use Rattle.script.proofs.run_records.Tie as tie
 
 pub loop-from-init : goal.loop-from-init
 loop-from-init c =
@@ -18,9 +16,6 @@ refusal_line-requires c =
     let l = c.loop-from in
     omega (arith, l.invariant.space, l.invariant.same_room, c.loop-from-test.true)
 
-same_length : tie.Need-same-length invariant-loop decreases-loop
-same_length c = written_length _ _ _ _ _ c.before.before.refusal-line.ensures ∙ c.before.before.before.before.before.before.before.before.loop.invariant.same_room
-
 pub returns-then-size-eq0 : goal.returns-then-size-eq0
 returns-then-size-eq0 c = stops_malformed c.loop-from.invariant c.loop-from-test.true c.record_size-size.ensures c.if-size-eq0.true c.refusal_line.ensures
 
@@ -28,9 +23,6 @@ pub refusal_line-requires-then-kind-eq1 : goal.refusal_line-requires-then-kind-e
 refusal_line-requires-then-kind-eq1 c =
     let l = c.loop-from in
     omega (arith, l.invariant.space, l.invariant.same_room, c.loop-from-test.true)
-
-same-length-2 : tie.Need-same-length-2 invariant-loop decreases-loop
-same-length-2 c = written_length _ _ _ _ _ c.before.before.refusal-line2.ensures ∙ c.before.before.before.before.before.before.before.before.before.before.loop.invariant.same_room
 
 pub returns-then-kind-eq1 : goal.returns-then-kind-eq1
 returns-then-kind-eq1 c =
@@ -80,9 +72,6 @@ loop-from-preserved c =
     let a = c.args in
     let l = c.loop-from in
     goes_on l.invariant c.loop-from-test.true (found a.script.now l.from _ c.record_size-size.ensures c.if-size-eq0.false) c.byte-kind.ensures c.if-kind-eq1.false c.obeyed-p.ensures
-
-same-length-3 : tie.Need-same-length-3 invariant-loop decreases-loop
-same-length-3 c = c.before.loop.invariant.same_room
 
 pub returns : goal.returns
 returns c = run_ends c.loop-from.invariant (omega arith)

@@ -1,5 +1,5 @@
 -- `script::obeyed` meets its contract. Assumes nothing.
-use Rattle.ground.proofs.Names.{arith, length, leb-true, rules}
+use Rattle.ground.proofs.Names.{arith, ◌≡◌, length, leb-true, rules}
 use Rattle.script.proofs.FormatLaws.{show_length, show_call}
 use Rattle.script.proofs.RunLaws.{given_obeyed}
 use Rattle.script.proofs.obeyed.Goals as goal
@@ -11,7 +11,15 @@ accessed-requires c =
     (leb-true 2 (length a.body.now) (rw c.in-2.is at p.0), search rules)
 
 pub shown-requires : goal.shown-requires
-shown-requires c = let h = c.in_default in ?
+shown-requires c =
+    let k = c.args.kind in
+    let p = c.requires in
+    let two : k ≡ 2 → ⊥ = λ e. omega arith in
+    let three : k ≡ 3 → ⊥ = λ e. omega arith in
+    let four : k ≡ 4 → ⊥ = λ e. omega arith in
+    let five : k ≡ 5 → ⊥ = λ e. omega arith in
+    let l = show_length k (length c.args.body.now) p.0 p.1 two three four five in
+    (p.2, omega arith)
 
 pub returns-in-2 : goal.returns-in-2
 returns-in-2 c = rw c.in-2.is c.accessed.ensures
@@ -32,4 +40,12 @@ returns-in-5 c =
     rw c.in-5.is (given_obeyed a.row _ _ _ a.at _ _ c.add_clocks-done.result _ (rw (c.byte-driver-in-5.ensures, c.word.ensures.0, c.word-in-5.ensures.0) at c.add_clocks-done.ensures) (omega arith) c.given-in-5.ensures)
 
 pub returns-in_default : goal.returns-in_default
-returns-in_default c = ?
+returns-in_default c =
+    let k = c.args.kind in
+    let b = c.args.body.now in
+    let p = c.requires in
+    let two : k ≡ 2 → ⊥ = λ e. omega arith in
+    let three : k ≡ 3 → ⊥ = λ e. omega arith in
+    let four : k ≡ 4 → ⊥ = λ e. omega arith in
+    let five : k ≡ 5 → ⊥ = λ e. omega arith in
+    rw (show_call k b two three four five, show_length k (length b) p.0 p.1 two three four five) c.shown.ensures

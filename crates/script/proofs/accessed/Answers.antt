@@ -38,9 +38,6 @@ returns-then-number-eq0 c =
     let d = c.access-done.ensures in
     answered a.row (word a.body.now 0) (drop 2 a.body.now) answer_room _ a.at _ _ _ c.access-done.result _ (rw (w, to_end 2 a.body.now) at d.0) c.if-number-eq0.true (rw (w, to_end 2 a.body.now) at d.1) (simp length-drop (omega arith)) (rw w at c.answer_line-end.ensures)
 
-pub refusal_line-end-requires : goal.refusal_line-end-requires
-refusal_line-end-requires c = omega (arith, decimal_short c.access-done.result.number)
-
 pub returns : goal.returns
 returns c =
     let a = c.args in

@@ -13,9 +13,6 @@ returns-then-number-eq0 c =
     show_served a.row (byte a.body.now 0) (segments (byte a.body.now 1) test_table test_table) 7 a.at _ _ s.result _
     (rw (c.byte-driver.ensures, c.byte-cathode.ensures, c.requires.0) at s.ensures) c.if-number-eq0.true (search rules) (omega arith) c.show_line-end.ensures
 
-pub refusal_line-end-requires : goal.refusal_line-end-requires
-refusal_line-end-requires c = omega (arith, decimal_short c.show-answer.result.number)
-
 pub returns : goal.returns
 returns c =
     let a = c.args in

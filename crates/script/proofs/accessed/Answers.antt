@@ -12,20 +12,20 @@ pub slice_bounds-room-end : goal.slice_bounds-room-end
 slice_bounds-room-end c =
     let d = c.access-done.ensures in
     let f = access_fits c.args.row _ _ _ (ap (λ (x : Done). x.number) (sym d.0) ∙ c.if-number-eq0.true) in
-    omega (arith, f.0, c.room-2-1.given)
+    omega (arith, f.0)
 
 pub slice_bounds-answer_line-end : goal.slice_bounds-answer_line-end
 slice_bounds-answer_line-end c =
     let d = c.access-done.ensures in
     let f = access_fits c.args.row _ _ _ (ap (λ (x : Done). x.number) (sym d.0) ∙ c.if-number-eq0.true) in
-    let h : bytes_for c.word-clocks.result ≤ length c.access-done.new.room = omega (arith, f.0, c.room-2-1.given) in
+    let h : bytes_for c.word-clocks.result ≤ length c.access-done.new.room = omega (arith, f.0) in
     sym (length-take-le _ _ h)
 
 pub answer_line-end-requires : goal.answer_line-end-requires
 answer_line-end-requires c =
     let d = c.access-done.ensures in
     let f = access_fits c.args.row _ _ _ (ap (λ (x : Done). x.number) (sym d.0) ∙ c.if-number-eq0.true) in
-    let h : bytes_for c.word-clocks.result ≤ length c.access-done.new.room = omega (arith, f.0, c.room-2-1.given) in
+    let h : bytes_for c.word-clocks.result ≤ length c.access-done.new.room = omega (arith, f.0) in
     let body = c.args.body.now in
     let g : bytes_for c.word-clocks.result ≤ length (drop 2 body) = rw (to_end 2 body) at f.1 in
     let t = length-take-le (bytes_for c.word-clocks.result) c.access-done.new.room h in

@@ -1,6 +1,6 @@
 -- Where a run starts, and what a script prints from there.
 -- Assumes nothing.
-use Rattle.ground.proofs.Names.{ℕ, ◌+◌, ◌*◌, ◌/◌, ◌≤◌, ◌<◌, arith, Bool, true, false, ◌&&◌, List, [], ◌∷◌, ◌++◌, ◌≡◌, refl, ltb, length, drop, eq-eqb, ne_eqb, lt-ltb, le-ltb, ltb-false, if}
+use Rattle.ground.proofs.Names.{ℕ, ◌+◌, ◌*◌, ◌≤◌, ◌<◌, arith, Bool, true, false, ◌&&◌, List, [], ◌∷◌, ◌++◌, ◌≡◌, refl, ltb, length, drop, eq-eqb, ne_eqb, lt-ltb, le-ltb, ltb-false, if}
 use Rattle.device.specs.PowerUp.{fresh_chain}
 use Rattle.printed.specs.Lines.{chain_line, refusal_line}
 use Rattle.printed.specs.Format.{byte, kind_of, body_length, size_of, well_formed, items_after, items}

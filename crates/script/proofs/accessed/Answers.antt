@@ -1,10 +1,9 @@
 -- `script::accessed` meets its contract. Assumes nothing.
-use Rattle.ground.proofs.Names.{◌≤◌, arith, sym, ap, ◌∙◌, length-take-le, length, drop, length-drop, rules}
+use Rattle.ground.proofs.Names.{◌≤◌, arith, sym, ap, ◌∙◌, length-take-le, length, drop, length-drop}
 use Rattle.refusals.specs.Refusals.{bytes_for}
 use Rattle.calls.specs.Calls.{access}
 use Rattle.row.specs.declared.Done.{Done}
 use Rattle.printed.specs.Format.{word, answer_room}
-use Rattle.script.proofs.RoomLaws.{decimal_short}
 use Rattle.script.proofs.RunLaws.{to_end, access_fits, answered, refused}
 use Rattle.script.proofs.accessed.Goals as goal
 

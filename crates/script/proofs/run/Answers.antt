@@ -1,6 +1,6 @@
 -- `script::run` meets its contract. Assumes nothing.
-use Rattle.ground.proofs.Names.{arith, lt-ltb, le-ltb, rules}
-use Rattle.script.proofs.StartLaws.{too_little, ran, printed_long, printed_items}
+use Rattle.ground.proofs.Names.{arith, lt-ltb}
+use Rattle.script.proofs.StartLaws.{ran, printed_long, printed_items}
 use Rattle.script.proofs.run.Goals as goal
 
 pub returns-then-script-gt-LONGEST : goal.returns-then-script-gt-LONGEST

@@ -1,6 +1,6 @@
 -- `script::run_records` meets its contract. Assumes nothing.
-use Rattle.ground.proofs.Names.{◌-◌, arith, ◌∙◌, length, rules}
-use Rattle.script.proofs.LoopLaws.{Running, run_starts, found, part_fits, stops_malformed, stops_chain, goes_on, run_ends}
+use Rattle.ground.proofs.Names.{arith}
+use Rattle.script.proofs.LoopLaws.{run_starts, found, part_fits, stops_malformed, stops_chain, goes_on, run_ends}
 use Rattle.script.proofs.run_records.Goals as goal
 
 pub loop-from-init : goal.loop-from-init

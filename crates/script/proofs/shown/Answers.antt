@@ -2,7 +2,6 @@
 use Rattle.ground.proofs.Names.{arith, rules}
 use Rattle.calls.specs.Calls.{segments}
 use Rattle.printed.specs.Format.{byte, test_table}
-use Rattle.script.proofs.RoomLaws.{decimal_short}
 use Rattle.script.proofs.RunLaws.{show_served, show_refused}
 use Rattle.script.proofs.shown.Goals as goal
 

@@ -1,7 +1,6 @@
 -- `script::lines::hex_bytes` meets its contract. Assumes nothing.
-use Rattle.ground.proofs.Names.{◌-◌, towards_suc, arith, refl, length, length-set}
-use Rattle.printed.specs.Lines.{hex_byte}
-use Rattle.script.proofs.RoomLaws.{Texts, texts_start, texts_more, texts_all}
+use Rattle.ground.proofs.Names.{towards_suc, arith, refl}
+use Rattle.script.proofs.RoomLaws.{texts_more, texts_all}
 use Rattle.script.proofs.lines.hex_bytes.Goals as goal
 
 pub loop-i-preserved : goal.loop-i-preserved

@@ -1,7 +1,6 @@
 -- `script::lines::letters` meets its contract. Assumes nothing.
-use Rattle.ground.proofs.Names.{◌-◌, arith, refl, rules}
-use Rattle.printed.specs.Lines.{pin_text}
-use Rattle.script.proofs.RoomLaws.{Texts, texts_start, texts_more, texts_all}
+use Rattle.ground.proofs.Names.{refl, rules}
+use Rattle.script.proofs.RoomLaws.{texts_more, texts_all}
 use Rattle.script.proofs.lines.letters.Goals as goal
 
 pub loop-p-preserved : goal.loop-p-preserved

@@ -1,6 +1,6 @@
 -- `script::lines::text` meets its contract. Assumes nothing.
-use Rattle.ground.proofs.Names.{◌-◌, arith, [], ◌∷◌, refl, length}
-use Rattle.script.proofs.RoomLaws.{Texts, texts_start, texts_more, texts_all, each_self}
+use Rattle.ground.proofs.Names.{arith, refl}
+use Rattle.script.proofs.RoomLaws.{texts_more, texts_all, each_self}
 use Rattle.script.proofs.lines.text.Goals as goal
 
 pub loop-i-preserved : goal.loop-i-preserved

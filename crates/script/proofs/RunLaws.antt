@@ -105,12 +105,6 @@ answered r c sent room size at out out' back done end e z b h w =
           omega (arith, w.place, answer_length (take (bytes_for c) back), length-take (bytes_for c) back, (access_fits r c sent room n).1);
     }
 
--- a scan, pin levels or clocks
-pub given_obeyed : (r : Row) (j : ℕ) (s : Step) (size at : ℕ) (out out' : List ℕ) (done : Done) (p : Progress)
-    → done ≡ done_on r (give j s) → 2 ≤ size → Given done at out out' p → Obeyed r (give j s) size at out out' p
-given_obeyed r j s size at out out' done p e h g =
-    record { row_after = g.row_after ∙ rw e; line = rw e at g.line; short = omega (arith, g.short) }
-
 module _ (r : Row) (j : ℕ) (q : Question) (size at : ℕ) (out out' : List ℕ) (a : Shown) (end : ℕ) (e : a ≡ shown_on r j q) where
   same_answer : a.number ≡ number_on r (ask j q)
   same_answer = rw e

@@ -1,7 +1,6 @@
 -- What the size and the kind of a record say.
 -- Assumes nothing.
-use Rattle.ground.proofs.Names.{ℕ, ◌+◌, arith, Bool, true, false, true≢false, List, ◌≡◌, refl, sym, eqb, eqb-true, ne_eqb, if}
-use Rattle.printed.specs.Format.{length_fits, call_of}
+use Rattle.ground.proofs.Names.{ℕ, ◌+◌, arith, Bool, true, false, ◌≡◌, refl, if}
 
 -- what a size says
 pub size_zero : (b : Bool) (n size : ℕ) → size ≡ if b (5 + n) 0 → size ≡ 0 → b ≡ false

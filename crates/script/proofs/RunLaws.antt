@@ -5,7 +5,7 @@ use Rattle.refusals.specs.Refusals.{bytes_for}
 use Rattle.refusals.proofs.RefusalLaws.{size_served as sizes-fit}
 use Rattle.device.specs.PowerUp.{power_up, fresh_chain}
 use Rattle.device.specs.declared.Device.{Device}
-use Rattle.calls.specs.Calls.{Step, Question, Call, access, give, ask, ask_chain}
+use Rattle.calls.specs.Calls.{Question, Call, access, give, ask, ask_chain}
 use Rattle.calls.specs.Outcome.{number, after}
 use Rattle.calls.proofs.Accepted.{number_says}
 use Rattle.calls.proofs.Records.{length_after}
@@ -15,8 +15,7 @@ use Rattle.row.specs.declared.Done.{Done}
 use Rattle.row.specs.declared.Shown.{Shown}
 use Rattle.printed.specs.Lines.{each, hex_byte, pin_text, answer_line, mark_letter, show_line, refusal_line, line_for}
 use Rattle.printed.specs.Script.{named_mark}
-use Rattle.script.specs.Progress.{Written, Given, Obeyed}
-use Rattle.script.specs.declared.Progress.{Progress}
+use Rattle.script.specs.Progress.{Written, Obeyed}
 use Rattle.script.proofs.RoomLaws.{decimal_short, length_each}
 
 -- a part of some bytes to their end

@@ -1,10 +1,9 @@
 -- Where a run starts, and what a script prints from there.
 -- Assumes nothing.
-use Rattle.ground.proofs.Names.{ℕ, ◌+◌, ◌*◌, ◌≤◌, ◌<◌, arith, Bool, true, false, ◌&&◌, List, [], ◌∷◌, ◌++◌, ◌≡◌, refl, ltb, length, drop, eq-eqb, ne_eqb, lt-ltb, le-ltb, ltb-false, if}
-use Rattle.device.specs.PowerUp.{fresh_chain}
-use Rattle.printed.specs.Lines.{chain_line, refusal_line}
+use Rattle.ground.proofs.Names.{ℕ, ◌≤◌, ◌<◌, arith, false, List, [], ◌∷◌, ◌≡◌, refl, length, eq-eqb, ne_eqb, lt-ltb, le-ltb, if}
+use Rattle.printed.specs.Lines.{refusal_line}
 use Rattle.printed.specs.Format.{byte, kind_of, body_length, size_of, well_formed, items_after, items}
-use Rattle.printed.specs.Script.{run_lines, assumed_chain, items_printed, longest, printed}
+use Rattle.printed.specs.Script.{assumed_chain, items_printed, longest, printed}
 use Rattle.printed.specs.Run.{room_for, ran_of, out_after}
 use Rattle.script.specs.Progress.{Written, Started}
 use Rattle.printed.specs.declared.Ran.{Ran}

@@ -1,5 +1,6 @@
 // The calls on a chain of MAX6954, MAX6955 and MAX6957: a lent row of records, nearest the controller first. Drivers are counted from 1.
 #![tactic(auto)]
+
 ghost use Rattle.std.specs.Prelude.{◌≡◌, [], ◌∷◌, length};
 ghost use Rattle.device.specs.PowerUp.{power_up, power_up6957};
 ghost use Rattle.calls.specs.Calls.{access as access_call, give, ask, scan, levels as pin_levels, clocks as master_clocks, plane, plane_shown, segments, brightness, shown, interrupt, answer_mark, look_back, ports as ports_question, ask_chain, plan, plan_check};
@@ -28,12 +29,7 @@ pub fn max6957_power_up() -> Device
 }
 
 // Clocks through the chain: the sent bits go in, the answer bits come out, and every driver takes its word.
-pub fn max6954_access(
-    chain: &mut [Device],
-    clocks: usize,
-    sent: &[u8],
-    answer: &mut [u8],
-) -> u8
+pub fn max6954_access(chain: &mut [Device], clocks: usize, sent: &[u8], answer: &mut [u8]) -> u8
     ensures { outcome (access_call clocks sent.now answer.old) chain.old ≡ record { number = result; records = chain.new; back = answer.new } }
 {
     let n = chain.len();
@@ -49,14 +45,7 @@ pub fn max6954_access(
 }
 
 // A key scan of one driver: the closed keys of groups A to D.
-pub fn max6954_scan(
-    chain: &mut [Device],
-    driver: usize,
-    a: u8,
-    b: u8,
-    c: u8,
-    d: u8,
-) -> u8
+pub fn max6954_scan(chain: &mut [Device], driver: usize, a: u8, b: u8, c: u8, d: u8) -> u8
     ensures { outcome (give driver (scan a b c d)) chain.old ≡ record { number = result; records = chain.new; back = [] } }
 {
     let own = pass::scan_refusal(a, b, c, d);
@@ -177,11 +166,7 @@ pub fn max6954_segments(
 }
 
 // The brightness of a digit of one driver, and what rules it.
-pub fn max6954_brightness(
-    chain: &[Device],
-    driver: usize,
-    digit: usize,
-) -> BrightnessAnswer
+pub fn max6954_brightness(chain: &[Device], driver: usize, digit: usize) -> BrightnessAnswer
     ensures { outcome (ask driver (brightness digit)) chain.now ≡ record { number = result.number; records = chain.now; back = result.sixteenths ∷ result.ruler ∷ [] } }
 {
     let own = pass::brightness_refusal(digit);
@@ -278,11 +263,7 @@ pub fn max6954_plan(chain: &[Device], wanted: &[u8], list: &mut [u16]) -> PlanAn
 }
 
 // Whether a list of accesses leads to the wanted contents, and has no word that a redraw may not use.
-pub fn max6954_plan_check(
-    chain: &[Device],
-    wanted: &[u8],
-    list: &[u16],
-) -> PlanCheckAnswer
+pub fn max6954_plan_check(chain: &[Device], wanted: &[u8], list: &[u16]) -> PlanCheckAnswer
     ensures { outcome (ask_chain (plan_check wanted.now list.now)) chain.now ≡ record { number = result.number; records = chain.now; back = result.accepted ∷ [] } }
 {
     let n = chain.len();

@@ -1,24 +1,23 @@
 -- Drivers of both families: the proof of `specs/BothFamilies.antt`'s theorem.
 --     old_takes, old-pinned        a driver that is no MAX6957
 -- Assumes nothing.
-use Rattle.ground.proofs.Names.{ℕ, ◌/◌, ◌%◌, ◌<◌, Bool, true, false, ◌&&◌, ◌≡◌, refl, sym, ap, ◌∙◌, eqb, ltb, lt-ltb, eqb-true, eqb-false, eq-eqb, ne_eqb, if, bit, and_left, and_right}
+use Rattle.ground.proofs.Names.{ℕ, ◌/◌, ◌%◌, ◌<◌, Bool, true, false, ◌≡◌, refl, ap, ◌∙◌, eqb, ltb, eqb-true, eq-eqb, ne_eqb, if, bit, and_left, and_right}
 use Rattle.words.specs.Addresses.{read_at, word_of}
 use Rattle.words.specs.declared.Word.{Word}
 use Rattle.words.specs.declared.Word.TheVariants.{Write, Read}
 use Rattle.registers.specs.Registers.{data_of}
-use Rattle.registers.specs.Sound.{sound_registers}
 use Rattle.port_words.specs.PortAddresses.{register_at}
 use Rattle.port_registers.specs.PortRegisters.{data_of as port_data}
 use Rattle.port_registers.specs.PortTaken.{pinned as port_pinned}
 use Rattle.port_registers.specs.PortSound.{sound_ports}
 use Rattle.port_registers.proofs.Sound.{soundness as port-soundness}
-use Rattle.device.specs.Record.{with_pins, with_shift, with_mark, with_ports}
+use Rattle.device.specs.Record.{with_pins, with_shift, with_ports}
 use Rattle.device.specs.Sound.{sound_of}
 use Rattle.device.specs.Taken.{answer_word, obeyed, taken}
 use Rattle.device.specs.Steps.{scanned, clocked}
 use Rattle.device.specs.TwoWire.{commanded, received, sent}
 use Rattle.device.specs.Families.{ports_taken, takes, pinned, data_at, port_sound, sound_record}
-use Rattle.device.specs.BothFamilies.{SoundSteps, WordTaken, Kept, BothFamilies}
+use Rattle.device.specs.BothFamilies.{SoundSteps, Kept, BothFamilies}
 use Rattle.device.specs.declared.Device.{Device}
 use Rattle.device.proofs.Sound.{soundness, registers_sound, command_sound}
 use Rattle.device.proofs.Shift.{shift_word_lem}

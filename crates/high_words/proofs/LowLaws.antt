@@ -1,6 +1,6 @@
 -- A word, taken by a driver of the old family, leaves what `low_taken` says; taken by a MAX6957, what `ports_replaced` does.
 -- Assumes nothing.
-use Rattle.ground.proofs.Names.{ℕ, ◌/◌, ◌%◌, ◌<◌, dec_lt, arith, Bool, true, false, ◌≡◌, refl, sym, ap, ap₂, ◌∙◌, eqb, ltb, lt-ltb, le-ltb, eq-eqb, ne_eqb, if, bit}
+use Rattle.ground.proofs.Names.{ℕ, ◌/◌, ◌%◌, ◌<◌, dec_lt, arith, true, false, ◌≡◌, refl, ap, ap₂, ◌∙◌, lt-ltb, le-ltb, eq-eqb, ne_eqb, if, bit}
 use Rattle.words.specs.Addresses.{word_of}
 use Rattle.words.specs.declared.Word.{Word}
 use Rattle.words.specs.declared.Word.TheVariants.{Write, Read}

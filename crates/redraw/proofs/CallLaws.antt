@@ -2,7 +2,7 @@
 --     own_is     the number before 13.        own-zero       what a number of 0 tells of the chain and of the wanted contents
 --     plan_outcome, check-outcome      the outcomes
 -- Assumes nothing.
-use Rattle.ground.proofs.Names.{ℕ, ◌*◌, ◌%◌, ◌<◌, ◌≤◌, arith, Bool, true, false, not, ◌&&◌, List, [], ◌∷◌, ◌++◌, ◌≡◌, refl, sym, ap, ◌∙◌, eqb, ltb, length, drop, eqb-true, ltb-true, ltb-false, le-leb, lt-ltb, if, passed, and_left, and_right}
+use Rattle.ground.proofs.Names.{ℕ, ◌*◌, ◌%◌, ◌<◌, ◌≤◌, arith, Bool, true, false, not, ◌&&◌, List, [], ◌∷◌, ◌++◌, ◌≡◌, refl, sym, ap, ◌∙◌, eqb, ltb, length, drop, eqb-true, ltb-true, ltb-false, lt-ltb, if, passed, and_left, and_right}
 use Rattle.refusals.specs.Refusals.{chain_refusal, sound_refusal, family_refusal, lack_refusal, wanted_refusal, list_refusal, first_of}
 use Rattle.refusals.proofs.RefusalLaws.{first_zero, first_last, found_last}
 use Rattle.device.specs.Families.{families}

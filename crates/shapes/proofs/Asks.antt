@@ -3,7 +3,7 @@
 --     asked_within          the same, where the answer tells again whether the question is within its limits
 --     question_there        for it is
 -- Assumes nothing.
-use Rattle.ground.proofs.Names.{ℕ, ◌-◌, ◌<◌, ◌≤◌, arith, List, [], ◌≡◌, sym, ap, ◌∙◌, length, get_or}
+use Rattle.ground.proofs.Names.{ℕ, ◌-◌, arith, List, ◌≡◌, sym, ap, ◌∙◌, get_or}
 use Rattle.device.specs.PowerUp.{power_up}
 use Rattle.device.specs.declared.Device.{Device}
 use Rattle.calls.specs.Calls.{Question, ask}

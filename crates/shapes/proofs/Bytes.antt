@@ -2,7 +2,7 @@
 --     Open         the part, and its record
 --     opened
 -- Assumes nothing.
-use Rattle.ground.proofs.Names.{ℕ, ◌-◌, ◌<◌, arith, List, ◌≡◌, sym, ap, ◌∙◌, length, get_or}
+use Rattle.ground.proofs.Names.{ℕ, ◌-◌, ◌<◌, arith, List, ◌≡◌, ap, ◌∙◌, length, get_or}
 use Rattle.device.specs.PowerUp.{power_up}
 use Rattle.device.specs.declared.Device.{Device}
 use Rattle.bus.specs.declared.Bus.{Bus}

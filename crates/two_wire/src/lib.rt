@@ -1,5 +1,6 @@
 // The calls on a two-wire bus of MAX6955: a lent row of their records. Parts are counted from 1.
 #![tactic(auto)]
+
 ghost use Rattle.std.specs.Prelude.{◌≡◌, [], ◌∷◌};
 ghost use Rattle.bus.specs.BusCalls.{start, put, get, stop};
 ghost use Rattle.bus.specs.BusOutcome.{bus_outcome};
@@ -27,12 +28,7 @@ pub fn max6955_stop(parts: &[Device], bus: Bus, straps: Straps) -> BusAnswer
 }
 
 // A byte given by the master: the slave byte, the command address or data.
-pub fn max6955_write(
-    parts: &mut [Device],
-    bus: Bus,
-    straps: Straps,
-    byte: u8,
-) -> ByteAnswer
+pub fn max6955_write(parts: &mut [Device], bus: Bus, straps: Straps, byte: u8) -> ByteAnswer
     ensures { bus_outcome straps.addresses (put byte) bus parts.old ≡ record { number = result.number; bus = result.bus; records = parts.new; back = result.acknowledged ∷ result.«data» ∷ [] } }
 {
     let n = parts.len();

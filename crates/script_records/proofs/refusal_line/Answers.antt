@@ -11,7 +11,7 @@ returns : tie.Need-returns
 returns c = rw (made c.before.before.before.before.before.before).0 at c.before.before.put3.ensures
 
 pub put-requires : goal.put-requires
-put-requires c = 
+put-requires c =
     let made : (take c.put-end.result c.put-end.new.1.0 ≡ refusal_line c.args.number) × (c.put-end.result ≤ length c.put-end.new.1.0) = let n = c.args.number in
     let p = written c.put-first.ensures (omega arith) in
     let q = written c.decimal-second.ensures (omega (arith, p.place, written_length _ _ _ _ _ p, decimal_short n)) in

@@ -1,12 +1,10 @@
 -- The answer of a script's lit time, and the totals that it leaves.
 -- Assumes nothing.
-use Rattle.ground.proofs.Names.{ℕ, ◌*◌, ◌/◌, ◌+◌, ◌%◌, ◌≤◌, ◌<◌, true, false, ◌&&◌, List, ◌≡◌, ◌∙◌, ltb, length, drop, lt-ltb, le-ltb}
+use Rattle.ground.proofs.Names.{ℕ, ◌*◌, ◌≤◌, ◌<◌, true, false, ◌&&◌, List, ◌≡◌, ◌∙◌, ltb, length, lt-ltb, le-ltb}
 use Rattle.device.specs.PowerUp.{fresh_chain}
-use Rattle.printed.specs.Format.{items}
 use Rattle.printed.specs.Script.{longest}
 use Rattle.script_records.specs.Records.{Started}
 use Rattle.script_records.specs.declared.Start.{Start}
-use Rattle.lit_time.specs.ScriptTime.{run_time}
 use Rattle.lit_time.specs.Answer.{drivers_of, total_at, lit_number, lit_answer, totals_after}
 use Rattle.lit_time_calls.specs.Progress.{Totals, time_from}
 use Rattle.lit_time.specs.declared.LitTimeAnswer.{LitTimeAnswer}

@@ -1,5 +1,6 @@
 // The lit time of a script's run, in lent totals: for each driver and cathode, over every clock given to the driver, lit segments times sixteenths.
 #![tactic(auto)]
+
 ghost use Rattle.std.specs.Prelude.{ℕ, ◌+◌, ◌-◌, ◌*◌, ◌/◌, ◌%◌, ◌^◌, ◌<◌, ◌≤◌, true, ◌≡◌, length, get_or, drop};
 ghost use Rattle.device.specs.PowerUp.{fresh_chain};
 ghost use Rattle.printed.specs.Format.{test_table, call_of, length_fits};

@@ -1,17 +1,14 @@
 -- A refusal's line.
 -- Assumes nothing.
-use Rattle.ground.proofs.Names.{ℕ, ◌≤◌, ◌<◌, arith, List, [], ◌∷◌, ◌≡◌, refl, length, replicate, take, length-append, take_at}
+use Rattle.ground.proofs.Names.{ℕ, ◌≤◌, arith, List, [], ◌∷◌, ◌≡◌, refl, length, replicate, take, length-append, take_at}
 use Rattle.text.specs.Text.{decimal, newline, refusal_line}
 use Rattle.text.specs.Written.{Written, room_after, place_after}
 use Rattle.text.proofs.Room.{written, written_length, both_written_lem, whole_written}
-use Rattle.text.proofs.Digits.{decimal_short, one_place}
+use Rattle.text.proofs.Digits.{decimal_short}
 
 -- it is at most 23 bytes long, and 4 where the number is one digit
 pub refusal_short : (n : ℕ) → length (refusal_line n) ≤ 23
 refusal_short n = rw length-append (omega (arith, decimal_short n))
-
-pub refusal_four : (n : ℕ) → n < 10 → length (refusal_line n) ≡ 4
-refusal_four n h = rw (one_place n h)
 
 -- its three parts, put one after another into 23 bytes
 pub line_made : (n : ℕ) {o₁ o₂ o₃ : List ℕ} {a₁ a₂ a₃ : ℕ}

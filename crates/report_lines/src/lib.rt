@@ -1,5 +1,6 @@
 // The report of a script's lit time: its lines, written into lent room.
 #![tactic(auto)]
+
 ghost use Rattle.std.specs.Prelude.{◌+◌, ◌*◌, ◌<◌, ◌≤◌, ◌++◌, ◌≡◌, length, get_or, drop};
 ghost use Rattle.text.specs.Written.{Written};
 ghost use Rattle.lit_time.specs.Report.{total_line, total_lines, reported};

@@ -1,4 +1,4 @@
--- The record at a place of a script, and the call that it is.
+-- The record at a place of a script.
 -- Assumes nothing.
 use Rattle.ground.proofs.Names.{ℕ, ◌+◌, ◌-◌, ◌≤◌, arith, true, List, ◌≡◌, length, take, drop, length-drop, length-take-le, take_all, if}
 use Rattle.printed.specs.Format.{kind_of, body_length, size_of, body_of, length_fits, well_formed}

@@ -1,6 +1,6 @@
 -- What an accepted byte does, by the bus state's numbers: the proof of `specs/Acknowledged.antt`'s theorem.
 -- Assumes nothing.
-use Rattle.ground.proofs.Names.{ℕ, zero, suc, ◌-◌, ◌/◌, ◌≤◌, ◌<◌, arith, not-suc-le-zero, Bool, true, false, ◌&&◌, List, [], ◌∷◌, ◌≡◌, refl, sym, ap, ◌∙◌, eqb, leb, ltb, length, get_or, set-get_or, eqb-true, eq-eqb, ne_eqb, ltb-true, if, odd, and_right}
+use Rattle.ground.proofs.Names.{ℕ, zero, suc, ◌-◌, ◌/◌, ◌≤◌, ◌<◌, arith, not-suc-le-zero, true, false, ◌&&◌, List, [], ◌∷◌, ◌≡◌, refl, sym, ap, ◌∙◌, eqb, leb, ltb, length, get_or, set-get_or, eqb-true, eq-eqb, ne_eqb, ltb-true, if, odd, and_right}
 use Rattle.device.specs.PowerUp.{power_up}
 use Rattle.device.specs.Families.{families}
 use Rattle.device.specs.declared.Device.{Device}

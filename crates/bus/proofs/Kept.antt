@@ -6,7 +6,7 @@ use Rattle.device.specs.TwoWire.{commanded, received, sent}
 use Rattle.device.specs.declared.Device.{Device}
 use Rattle.calls.specs.Calls.{Step}
 use Rattle.calls.specs.Served.{record_of, stepped}
-use Rattle.calls.specs.Outcome.{number as chainNumber, after, reply as chainReply}
+use Rattle.calls.specs.Outcome.{number as chain_number, after, reply as chain_reply}
 use Rattle.calls.proofs.Records.{same_fitted}
 use Rattle.calls.proofs.Next.{same_shift}
 use Rattle.calls.proofs.Marks.{same_mark}
@@ -73,7 +73,7 @@ bus_kept =
     }
 
 pub chain_calls : ChainCalls
-unfolding number parts_after reply bus_after chainNumber after chainReply
+unfolding number parts_after reply bus_after chain_number after chain_reply
 chain_calls =
     record {
       gives = λ σ j x b ds. record { same_number = refl; same_parts = refl; same_reply = refl; same_bus = refl };

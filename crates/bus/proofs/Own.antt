@@ -3,7 +3,7 @@
 use Rattle.ground.proofs.Names.{ℕ, zero, suc, ◌-◌, ◌≤◌, arith, not-suc-le-zero, true, false, true≢false, List, [], ◌∷◌, ◌≡◌, refl, sym, ap, eqb, length, take, get_or-set_same, get_or-set_other, get_or-take, eqb-true, eqb-false, eq-eqb, if}
 use Rattle.device.specs.PowerUp.{power_up}
 use Rattle.device.specs.declared.Device.{Device}
-use Rattle.calls.specs.Calls.{give as giveChain, ask as ask_chain}
+use Rattle.calls.specs.Calls.{give as give_chain, ask as ask_chain}
 use Rattle.calls.specs.CallRefusals.{family_at, families_below}
 use Rattle.calls.specs.Served.{record_of, with_record}
 use Rattle.calls.proofs.Accepted.{zero_says, driver_there}
@@ -42,7 +42,7 @@ module _ (n i : ℕ) (fs σ rest : List ℕ) (sixteen : length σ ≡ 16) (h : 1
   lone_accepted stop t qs a o = rw (lone_wire (wire_served n fs σ a) (wire_old n fs σ a))
   lone_accepted (give j x) t qs a o =
       let p : j ≡ i = eqb-true j i o in
-      let s = zero_says n fs true 0 (giveChain j x) (eqb-true _ 0 a) in
+      let s = zero_says n fs true 0 (give_chain j x) (eqb-true _ 0 a) in
       rw (rw p at s.argument, below_at 1 fs (i - 1) s.known, rw p at s.has)
   lone_accepted (ask j x) t qs a o =
       let p : j ≡ i = eqb-true j i o in
@@ -108,5 +108,5 @@ module _ (n i : ℕ) (fs σ rest : List ℕ) (sixteen : length σ ≡ 16) (h : 1
     call_other get (transfer k u) qs m a o = set_other k _ m.0 (ours_not k (get ∷ qs) o)
     call_other stop s qs m a o = refl
     call_other (give j x) s qs m a o =
-        set_other j _ (driver_there n j (zero_says n fs true 0 (giveChain j x) (eqb-true _ 0 a)).named).0 (eqb-false j i o)
+        set_other j _ (driver_there n j (zero_says n fs true 0 (give_chain j x) (eqb-true _ 0 a)).named).0 (eqb-false j i o)
     call_other (ask j x) s qs m a o = refl

@@ -4,7 +4,7 @@ use Rattle.ground.proofs.Names.{ℕ, ◌-◌, Bool, true, false, List, [], ◌�
 use Rattle.device.specs.Families.{families, sound_record}
 use Rattle.device.specs.declared.Device.{Device}
 use Rattle.device.proofs.Families.{both_families}
-use Rattle.calls.specs.Calls.{give as giveChain}
+use Rattle.calls.specs.Calls.{give as give_chain}
 use Rattle.calls.specs.CallRefusals.{all_sound}
 use Rattle.calls.specs.Served.{record_of, with_record}
 use Rattle.calls.proofs.Records.{sound_at, sound_set, same_family, family_at_lem}
@@ -48,7 +48,7 @@ module _ {n : ℕ} {fs : List ℕ} (σ : List ℕ) (ds : List Device) (l : lengt
   served_sound get (transfer k u) a = set_sound k _ (asked_sound u (record_of ds k) (sound_at ds e (k - 1)))
   served_sound stop s a = (l, e)
   served_sound (give j x) s a =
-      set_sound j _ (stepped_sound x (record_of ds j) (rw (← kinds, family_at_lem) at (zero_says n fs true 0 (giveChain j x) (eqb-true _ 0 a)).argument) (sound_at ds e (j - 1)))
+      set_sound j _ (stepped_sound x (record_of ds j) (rw (← kinds, family_at_lem) at (zero_says n fs true 0 (give_chain j x) (eqb-true _ 0 a)).argument) (sound_at ds e (j - 1)))
   served_sound (ask j x) s a = (l, e)
 
 -- any call, and any list of calls

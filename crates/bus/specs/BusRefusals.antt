@@ -3,7 +3,7 @@
 use Rattle.std.specs.Prelude.{ℕ, Bool, ◌&&◌, List, length, take}
 use Rattle.refusals.specs.Refusals.{chain_refusal, sound_refusal, clash_refusal, address_refusal, family_refusal, in_order}
 use Rattle.device.specs.declared.Device.{Device}
-use Rattle.calls.specs.Calls.{give as giveChain, ask as ask_chain}
+use Rattle.calls.specs.Calls.{give as give_chain, ask as ask_chain}
 use Rattle.calls.specs.CallRefusals.{families_below, all_sound, refusal_by}
 use Rattle.bus.specs.declared.Bus.{Bus}
 use Rattle.bus.specs.Straps.{distinct, seven_bits}
@@ -21,7 +21,7 @@ bus_refusal_by n fs sound σ start = wire_refusal n fs sound σ
 bus_refusal_by n fs sound σ (put v) = wire_refusal n fs sound σ
 bus_refusal_by n fs sound σ get = wire_refusal n fs sound σ
 bus_refusal_by n fs sound σ stop = wire_refusal n fs sound σ
-bus_refusal_by n fs sound σ (give j s) = refusal_by n fs sound 0 (giveChain j s)
+bus_refusal_by n fs sound σ (give j s) = refusal_by n fs sound 0 (give_chain j s)
 bus_refusal_by n fs sound σ (ask j q) = refusal_by n fs sound 0 (ask_chain j q)
 
 -- 7: what a call is given is sound: the records, and the bus state where it is given one

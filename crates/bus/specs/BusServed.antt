@@ -4,8 +4,8 @@ use Rattle.std.specs.Prelude.{ℕ, zero, suc, List, [], ◌∷◌}
 use Rattle.ground.specs.Choice.{if, odd}
 use Rattle.device.specs.TwoWire.{commanded, received, sent_data, sent}
 use Rattle.device.specs.declared.Device.{Device}
-use Rattle.calls.specs.Calls.{give as giveChain, ask as ask_chain}
-use Rattle.calls.specs.Served.{record_of, with_record, served as servedChain, given_back as backChain, refused_back as refusedChain}
+use Rattle.calls.specs.Calls.{give as give_chain, ask as ask_chain}
+use Rattle.calls.specs.Served.{record_of, with_record, served as served_chain, given_back as back_chain, refused_back as refused_chain}
 use Rattle.bus.specs.Straps.{matched}
 use Rattle.bus.specs.States.{Use, command, writing, reading, State, idle, slave, unmatched, transfer}
 use Rattle.bus.specs.BusCalls.{BusCall, start, put, get, stop, give, ask}
@@ -61,7 +61,7 @@ served get slave ds = ds
 served get unmatched ds = ds
 served get (transfer k u) ds = with_record ds k (asked u (record_of ds k))
 served stop s ds = ds
-served (give j x) s ds = servedChain (giveChain j x) ds
+served (give j x) s ds = served_chain (give_chain j x) ds
 served (ask j x) s ds = ds
 
 -- a byte given that is acknowledged: 1, and data 0
@@ -106,7 +106,7 @@ given_back n σ get unmatched ds = nobody
 given_back n σ get (transfer k u) ds = asked_reply u (record_of ds k)
 given_back n σ stop s ds = []
 given_back n σ (give j x) s ds = []
-given_back n σ (ask j x) s ds = backChain (ask_chain j x) ds
+given_back n σ (ask j x) s ds = back_chain (ask_chain j x) ds
 
 -- what a refused call gives back: a number is 0
 abbrev pub refused_back : BusCall → List ℕ
@@ -115,4 +115,4 @@ refused_back (put v) = 0 ∷ 0 ∷ []
 refused_back get = 0 ∷ 0 ∷ []
 refused_back stop = []
 refused_back (give j x) = []
-refused_back (ask j x) = refusedChain (ask_chain j x)
+refused_back (ask j x) = refused_chain (ask_chain j x)

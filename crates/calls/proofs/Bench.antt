@@ -7,7 +7,7 @@ use Rattle.device.specs.Taken.{taken}
 use Rattle.device.specs.Families.{takes, pinned, sound_record}
 use Rattle.port_registers.specs.Levels.{upper_bits, directions, levels}
 use Rattle.port_registers.specs.PortRegisters.{replaced}
-use Rattle.port_registers.specs.PortTaken.{settled, taken as portTaken, pinned as portPinned}
+use Rattle.port_registers.specs.PortTaken.{settled, taken as port_taken, pinned as port_pinned}
 use Rattle.port_states.specs.PortStates.{states_of}
 use Rattle.plans.specs.Words.{every}
 use Rattle.plans.specs.Check.{below, same, accepted_words, accepted_list}
@@ -24,7 +24,7 @@ use Rattle.calls.specs.OutputExamples.{shown_rows, pin_rows, brightness_rows, in
 use Rattle.calls.specs.Examples.{mixed, others, number_rows, answer_rows, mark_rows, plan_rows, look_back_rows, family_rows, Examples}
 
 bench : Agree table
-unfolding portTaken portPinned settled levels directions upper_bits replaced states_of tabulate bits value unpack byte_at pack word_at string words wire answer shifted taken takes families_below sound_record pinned all_sound number after reply after_all numbers replies
+unfolding port_taken port_pinned settled levels directions upper_bits replaced states_of tabulate bits value unpack byte_at pack word_at string words wire answer shifted taken takes families_below sound_record pinned all_sound number after reply after_all numbers replies
 bench = refl
 
 bench_numbers : Agree number_rows
@@ -71,7 +71,7 @@ unfolding taken takes families_below sound_record pinned all_sound number reply
 bench_looks = refl
 
 bench_families : Agree family_rows
-unfolding portTaken portPinned settled levels directions upper_bits replaced states_of tabulate bits value unpack byte_at pack word_at string words wire answer shifted taken takes families_below sound_record pinned all_sound number after reply after_all replies
+unfolding port_taken port_pinned settled levels directions upper_bits replaced states_of tabulate bits value unpack byte_at pack word_at string words wire answer shifted taken takes families_below sound_record pinned all_sound number after reply after_all replies
 bench_families = refl
 
 bench_full : AllFull 2 (0 ∷ 1 ∷ []) (access_of 32 (replicate 4 0x55) ∷ others)
@@ -83,7 +83,7 @@ unfolding NoAccess families_below
 bench_no_access = (refl, tt)
 
 bench_none_decides : none_decides others mixed ≡ true
-unfolding none_decides portPinned settled levels directions upper_bits families_below sound_record pinned all_sound number after
+unfolding none_decides port_pinned settled levels directions upper_bits families_below sound_record pinned all_sound number after
 bench_none_decides = refl
 
 pub examples : Examples

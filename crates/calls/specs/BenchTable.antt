@@ -2,10 +2,10 @@
 -- Assumes nothing.
 use Rattle.std.specs.Prelude.{ℕ, List, [], ◌∷◌, ◌++◌, map, replicate}
 use Rattle.device.specs.PowerUp.{fresh_chain}
-use Rattle.device.specs.Examples.{rows as driverRows}
+use Rattle.device.specs.Examples.{rows as driver_rows}
 use Rattle.device.specs.declared.Device.{Device}
 use Rattle.wiring.specs.Wiring.{Wire}
-use Rattle.display.specs.Examples.{wire_rows, rows as displayRows}
+use Rattle.display.specs.Examples.{wire_rows, rows as display_rows}
 use Rattle.calls.specs.Calls.{scan, Call, access, give}
 use Rattle.calls.specs.Served.{record_of}
 use Rattle.calls.specs.Outcome.{number}
@@ -84,4 +84,4 @@ cells {A} cell rows = map (λ (row : List A × List A). (map cell row.0, map cel
 
 -- the one table: 1 to 5 on a chain, 6, 7 and request 2's bytes of the display, 1 again, 8 and 9 on one driver, 10 and 11 by wires, 12 on a chain
 abbrev pub table : List (List Cell × List Cell)
-table = cells value (chain_rows ++ displayRows ++ driverRows) ++ cells wire wire_rows ++ cells value clock_rows
+table = cells value (chain_rows ++ display_rows ++ driver_rows) ++ cells wire wire_rows ++ cells value clock_rows

@@ -3,7 +3,7 @@
 -- Assumes nothing.
 use Rattle.std.specs.Prelude.{ℕ, ◌*◌, true, List, [], ◌∷◌, ◌++◌, map, ◌≡◌, replicate}
 use Rattle.ground.specs.Lists.{tabulate, Agree}
-use Rattle.port_registers.specs.PortRecord.{with_pins as withLevels}
+use Rattle.port_registers.specs.PortRecord.{with_pins as with_levels}
 use Rattle.device.specs.PowerUp.{power_up, power_up6957, fresh_chain}
 use Rattle.device.specs.Record.{with_pins, with_blink, with_shift, with_mark, with_command, with_ports, with_family}
 use Rattle.device.specs.Taken.{taken}
@@ -177,7 +177,7 @@ mixed = power_up ∷ power_up6957 ∷ []
 
 -- a driver of an unknown family, none of whose fields fits
 abbrev pub stranger : Device
-stranger = with_family (with_ports (with_mark (with_pins power_up 32) 2) (withLevels power_up.ports 0x10000000)) 2
+stranger = with_family (with_ports (with_mark (with_pins power_up 32) 2) (with_levels power_up.ports 0x10000000)) 2
 
 -- the numbers of everything that a driver may be given or asked
 abbrev pub each_number : ℕ → List Device → List ℕ
@@ -223,7 +223,7 @@ family_rows =
     ∷ (map (λ d. number (ask_chain (plan_check [] [])) (d ∷ power_up6957 ∷ [])) (power_up ∷ with_pins power_up 32 ∷ []) ++ map (λ d. number (ask 2 shown) (d ∷ power_up6957 ∷ [])) (power_up ∷ with_pins power_up 32 ∷ []), 14 ∷ 7 ∷ 14 ∷ 7 ∷ [])
     -- 7: a record is tested by its own family's fields, and the answer mark; the command address of the old family alone
     ∷ (
-      map (λ d. number (ask 1 interrupt) (d ∷ [])) (with_pins power_up6957 32 ∷ with_command power_up6957 128 ∷ with_mark power_up6957 2 ∷ with_ports power_up6957 (withLevels power_up.ports 0x10000000) ∷ with_ports power_up (withLevels power_up.ports 0x10000000) ∷ with_command power_up 128 ∷ []),
+      map (λ d. number (ask 1 interrupt) (d ∷ [])) (with_pins power_up6957 32 ∷ with_command power_up6957 128 ∷ with_mark power_up6957 2 ∷ with_ports power_up6957 (with_levels power_up.ports 0x10000000) ∷ with_ports power_up (with_levels power_up.ports 0x10000000) ∷ with_command power_up 128 ∷ []),
       0 ∷ 0 ∷ 7 ∷ 7 ∷ 0 ∷ 7 ∷ [],
     )
     -- the ports of driver 2 after 0401, 0955, 4005: P4 and P6 high, P5 and P7 low; refused: 28 times undriven

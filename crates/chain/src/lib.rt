@@ -1,8 +1,9 @@
 // The calls on a chain of MAX6954, MAX6955 and MAX6957: a lent row of records, nearest the controller first. Drivers are counted from 1.
 #![tactic(auto)]
+
 ghost use Rattle.std.specs.Prelude.{◌≡◌, [], ◌∷◌, length};
 ghost use Rattle.device.specs.PowerUp.{power_up, power_up6957};
-ghost use Rattle.calls.specs.Calls.{access as accessCall, give, ask, scan, levels as pinLevels, clocks as masterClocks, plane, plane_shown, segments, brightness, shown, interrupt, answer_mark, look_back, ports as portsQuestion, ask_chain, plan, plan_check};
+ghost use Rattle.calls.specs.Calls.{access as access_call, give, ask, scan, levels as pin_levels, clocks as master_clocks, plane, plane_shown, segments, brightness, shown, interrupt, answer_mark, look_back, ports as ports_question, ask_chain, plan, plan_check};
 ghost use Rattle.calls.specs.Outcome.{outcome};
 ghost use Rattle.redraw.specs.PlanBytes.{bytes_number, bytes_after};
 
@@ -14,30 +15,22 @@ use look_back::LookBackAnswer;
 use planner::{PlanAnswer, PlanCheckAnswer};
 
 // A driver at power-up.
-#[unsafe(no_mangle)]
-pub extern "C" fn max6954_power_up() -> Device
+pub fn max6954_power_up() -> Device
     ensures { result ≡ power_up }
 {
     Device::new()
 }
 
 // A MAX6957 at power-up.
-#[unsafe(no_mangle)]
-pub extern "C" fn max6957_power_up() -> Device
+pub fn max6957_power_up() -> Device
     ensures { result ≡ power_up6957 }
 {
     Device::new_6957()
 }
 
 // Clocks through the chain: the sent bits go in, the answer bits come out, and every driver takes its word.
-#[unsafe(no_mangle)]
-pub extern "C" fn max6954_access(
-    chain: &mut [Device],
-    clocks: usize,
-    sent: &[u8],
-    answer: &mut [u8],
-) -> u8
-    ensures { outcome (accessCall clocks sent.now answer.old) chain.old ≡ record { number = result; records = chain.new; back = answer.new } }
+pub fn max6954_access(chain: &mut [Device], clocks: usize, sent: &[u8], answer: &mut [u8]) -> u8
+    ensures { outcome (access_call clocks sent.now answer.old) chain.old ≡ record { number = result; records = chain.new; back = answer.new } }
 {
     let n = chain.len();
     let first = pass::access_by_arguments(n, clocks, sent.len(), answer.len());
@@ -52,15 +45,7 @@ pub extern "C" fn max6954_access(
 }
 
 // A key scan of one driver: the closed keys of groups A to D.
-#[unsafe(no_mangle)]
-pub extern "C" fn max6954_scan(
-    chain: &mut [Device],
-    driver: usize,
-    a: u8,
-    b: u8,
-    c: u8,
-    d: u8,
-) -> u8
+pub fn max6954_scan(chain: &mut [Device], driver: usize, a: u8, b: u8, c: u8, d: u8) -> u8
     ensures { outcome (give driver (scan a b c d)) chain.old ≡ record { number = result; records = chain.new; back = [] } }
 {
     let own = pass::scan_refusal(a, b, c, d);
@@ -74,9 +59,8 @@ pub extern "C" fn max6954_scan(
 }
 
 // The pin levels of one driver.
-#[unsafe(no_mangle)]
-pub extern "C" fn max6954_set_pins(chain: &mut [Device], driver: usize, levels: u32) -> u8
-    ensures { outcome (give driver (pinLevels levels)) chain.old ≡ record { number = result; records = chain.new; back = [] } }
+pub fn max6954_set_pins(chain: &mut [Device], driver: usize, levels: u32) -> u8
+    ensures { outcome (give driver (pin_levels levels)) chain.old ≡ record { number = result; records = chain.new; back = [] } }
 {
     let own = pass::levels_refusal(levels);
     let number = lent::call_refusal(chain, driver, own);
@@ -89,9 +73,8 @@ pub extern "C" fn max6954_set_pins(chain: &mut [Device], driver: usize, levels: 
 }
 
 // Master clocks given to one driver.
-#[unsafe(no_mangle)]
-pub extern "C" fn max6954_add_clocks(chain: &mut [Device], driver: usize, clocks: u32) -> u8
-    ensures { outcome (give driver (masterClocks clocks)) chain.old ≡ record { number = result; records = chain.new; back = [] } }
+pub fn max6954_add_clocks(chain: &mut [Device], driver: usize, clocks: u32) -> u8
+    ensures { outcome (give driver (master_clocks clocks)) chain.old ≡ record { number = result; records = chain.new; back = [] } }
 {
     let own = pass::clocks_refusal(clocks);
     let number = lent::call_refusal(chain, driver, own);
@@ -124,8 +107,7 @@ pub fn max6954_plane<'a>(
 }
 
 // The number of that call.
-#[unsafe(no_mangle)]
-pub extern "C" fn max6954_plane_number(
+pub fn max6954_plane_number(
     chain: &[Device],
     driver: usize,
     p0: &[u8],
@@ -145,8 +127,7 @@ pub extern "C" fn max6954_plane_number(
 }
 
 // Its number, and which of the two lent planes the part is of.
-#[unsafe(no_mangle)]
-pub extern "C" fn max6954_plane_shown(
+pub fn max6954_plane_shown(
     chain: &[Device],
     driver: usize,
     p0: &[u8],
@@ -166,8 +147,7 @@ pub extern "C" fn max6954_plane_shown(
 }
 
 // What a cathode of one driver shows under two glyph tables, one for 14 and one for 16 segments.
-#[unsafe(no_mangle)]
-pub extern "C" fn max6954_segments(
+pub fn max6954_segments(
     chain: &[Device],
     driver: usize,
     cathode: usize,
@@ -186,12 +166,7 @@ pub extern "C" fn max6954_segments(
 }
 
 // The brightness of a digit of one driver, and what rules it.
-#[unsafe(no_mangle)]
-pub extern "C" fn max6954_brightness(
-    chain: &[Device],
-    driver: usize,
-    digit: usize,
-) -> BrightnessAnswer
+pub fn max6954_brightness(chain: &[Device], driver: usize, digit: usize) -> BrightnessAnswer
     ensures { outcome (ask driver (brightness digit)) chain.now ≡ record { number = result.number; records = chain.now; back = result.sixteenths ∷ result.ruler ∷ [] } }
 {
     let own = pass::brightness_refusal(digit);
@@ -204,8 +179,7 @@ pub extern "C" fn max6954_brightness(
 }
 
 // The plane that one driver shows.
-#[unsafe(no_mangle)]
-pub extern "C" fn max6954_shown(chain: &[Device], driver: usize) -> ShownAnswer
+pub fn max6954_shown(chain: &[Device], driver: usize) -> ShownAnswer
     ensures { outcome (ask driver shown) chain.now ≡ record { number = result.number; records = chain.now; back = result.plane ∷ [] } }
 {
     let own = pass::shown_refusal();
@@ -218,8 +192,7 @@ pub extern "C" fn max6954_shown(chain: &[Device], driver: usize) -> ShownAnswer
 }
 
 // Whether the interrupt of one driver is raised.
-#[unsafe(no_mangle)]
-pub extern "C" fn max6954_interrupt(chain: &[Device], driver: usize) -> InterruptAnswer
+pub fn max6954_interrupt(chain: &[Device], driver: usize) -> InterruptAnswer
     ensures { outcome (ask driver interrupt) chain.now ≡ record { number = result.number; records = chain.now; back = result.raised ∷ [] } }
 {
     let own = pass::interrupt_refusal();
@@ -232,8 +205,7 @@ pub extern "C" fn max6954_interrupt(chain: &[Device], driver: usize) -> Interrup
 }
 
 // The answer mark of one driver: whether the word that it took last was a read.
-#[unsafe(no_mangle)]
-pub extern "C" fn max6954_answer_mark(chain: &[Device], driver: usize) -> MarkAnswer
+pub fn max6954_answer_mark(chain: &[Device], driver: usize) -> MarkAnswer
     ensures { outcome (ask driver answer_mark) chain.now ≡ record { number = result.number; records = chain.now; back = result.mark ∷ [] } }
 {
     let own = pass::mark_refusal();
@@ -246,9 +218,8 @@ pub extern "C" fn max6954_answer_mark(chain: &[Device], driver: usize) -> MarkAn
 }
 
 // What each of P4 to P31 of a MAX6957 drives.
-#[unsafe(no_mangle)]
-pub extern "C" fn max6957_ports(chain: &[Device], driver: usize) -> PortAnswer
-    ensures { outcome (ask driver portsQuestion) chain.now ≡ record { number = result.number; records = chain.now; back = result.ports } }
+pub fn max6957_ports(chain: &[Device], driver: usize) -> PortAnswer
+    ensures { outcome (ask driver ports_question) chain.now ≡ record { number = result.number; records = chain.now; back = result.ports } }
 {
     let own = pass::ports_refusal();
     let number = lent::each_refusal(chain, driver, own);
@@ -260,8 +231,7 @@ pub extern "C" fn max6957_ports(chain: &[Device], driver: usize) -> PortAnswer
 }
 
 // The byte of a digit in plane 0 or 1 that one driver would have after a list of words, found by looking back from the last.
-#[unsafe(no_mangle)]
-pub extern "C" fn max6954_look_back(
+pub fn max6954_look_back(
     chain: &[Device],
     driver: usize,
     plane: usize,
@@ -280,8 +250,7 @@ pub extern "C" fn max6954_look_back(
 }
 
 // The shortest list of accesses that leads to the wanted contents, 32 bytes for each driver, P0 then P1: into the front of the list.
-#[unsafe(no_mangle)]
-pub extern "C" fn max6954_plan(chain: &[Device], wanted: &[u8], list: &mut [u16]) -> PlanAnswer
+pub fn max6954_plan(chain: &[Device], wanted: &[u8], list: &mut [u16]) -> PlanAnswer
     ensures { outcome (ask_chain (plan wanted.now list.old)) chain.now ≡ record { number = result.number; records = chain.now; back = result.accesses ∷ list.new } }
 {
     let n = chain.len();
@@ -294,12 +263,7 @@ pub extern "C" fn max6954_plan(chain: &[Device], wanted: &[u8], list: &mut [u16]
 }
 
 // Whether a list of accesses leads to the wanted contents, and has no word that a redraw may not use.
-#[unsafe(no_mangle)]
-pub extern "C" fn max6954_plan_check(
-    chain: &[Device],
-    wanted: &[u8],
-    list: &[u16],
-) -> PlanCheckAnswer
+pub fn max6954_plan_check(chain: &[Device], wanted: &[u8], list: &[u16]) -> PlanCheckAnswer
     ensures { outcome (ask_chain (plan_check wanted.now list.now)) chain.now ≡ record { number = result.number; records = chain.now; back = result.accepted ∷ [] } }
 {
     let n = chain.len();
@@ -310,8 +274,7 @@ pub extern "C" fn max6954_plan_check(
 }
 
 // The bytes to send for one access of a list for n drivers.
-#[unsafe(no_mangle)]
-pub extern "C" fn max6954_plan_bytes(n: usize, list: &[u16], access: usize, bytes: &mut [u8]) -> u8
+pub fn max6954_plan_bytes(n: usize, list: &[u16], access: usize, bytes: &mut [u8]) -> u8
     ensures { (result ≡ bytes_number n (length list.now) access (length bytes.old)) × (bytes.new ≡ bytes_after n list.now access bytes.old) }
 {
     redraw::plan_bytes(n, list, access, bytes)

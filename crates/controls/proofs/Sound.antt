@@ -7,7 +7,7 @@ use Rattle.controls.specs.Controls.{control_written, sound_controls}
 use Rattle.controls.specs.Config.{config_of, sound_config}
 use Rattle.controls.specs.declared.Controls.{Controls}
 
--- the four tests of `soundControls`
+-- the four tests of `sound_controls`
 record Parts (x : Controls) : Type 0 where
   global : ltb x.global 16 ≡ true
   limit : ltb x.limit 8 ≡ true

@@ -1,24 +1,23 @@
 -- Drivers of both families: the proof of `specs/BothFamilies.antt`'s theorem.
---     old-takes, old-pinned        a driver that is no MAX6957
+--     old_takes, old-pinned        a driver that is no MAX6957
 -- Assumes nothing.
-use Rattle.ground.proofs.Names.{ℕ, ◌/◌, ◌%◌, ◌<◌, Bool, true, false, ◌&&◌, ◌≡◌, refl, sym, ap, ◌∙◌, eqb, ltb, lt-ltb, eqb-true, eqb-false, eq-eqb, ne_eqb, if, bit, and_left, and_right}
+use Rattle.ground.proofs.Names.{ℕ, ◌/◌, ◌%◌, ◌<◌, Bool, true, false, ◌≡◌, refl, ap, ◌∙◌, eqb, ltb, eqb-true, eq-eqb, ne_eqb, if, bit, and_left, and_right}
 use Rattle.words.specs.Addresses.{read_at, word_of}
 use Rattle.words.specs.declared.Word.{Word}
 use Rattle.words.specs.declared.Word.TheVariants.{Write, Read}
 use Rattle.registers.specs.Registers.{data_of}
-use Rattle.registers.specs.Sound.{sound_registers}
 use Rattle.port_words.specs.PortAddresses.{register_at}
 use Rattle.port_registers.specs.PortRegisters.{data_of as port_data}
-use Rattle.port_registers.specs.PortTaken.{pinned as portPinned}
+use Rattle.port_registers.specs.PortTaken.{pinned as port_pinned}
 use Rattle.port_registers.specs.PortSound.{sound_ports}
 use Rattle.port_registers.proofs.Sound.{soundness as port-soundness}
-use Rattle.device.specs.Record.{with_pins, with_shift, with_mark, with_ports}
+use Rattle.device.specs.Record.{with_pins, with_shift, with_ports}
 use Rattle.device.specs.Sound.{sound_of}
 use Rattle.device.specs.Taken.{answer_word, obeyed, taken}
 use Rattle.device.specs.Steps.{scanned, clocked}
 use Rattle.device.specs.TwoWire.{commanded, received, sent}
 use Rattle.device.specs.Families.{ports_taken, takes, pinned, data_at, port_sound, sound_record}
-use Rattle.device.specs.BothFamilies.{SoundSteps, WordTaken, Kept, BothFamilies}
+use Rattle.device.specs.BothFamilies.{SoundSteps, Kept, BothFamilies}
 use Rattle.device.specs.declared.Device.{Device}
 use Rattle.device.proofs.Sound.{soundness, registers_sound, command_sound}
 use Rattle.device.proofs.Shift.{shift_word_lem}
@@ -86,7 +85,7 @@ unfolding pinned sound_record
 pins_sound d l h g s = go (eqb d.family 1) refl s
   where
     go : (b : Bool) → eqb d.family 1 ≡ b → if (eqb d.family 0) (sound_of d) (if b (port_sound d) true) ≡ true
-        → sound_record (if b (with_ports d (portPinned d.ports l)) (with_pins d l)) ≡ true
+        → sound_record (if b (with_ports d (port_pinned d.ports l)) (with_pins d l)) ≡ true
     go true e s =
         let z : eqb d.family 0 ≡ false = rw (eqb-true d.family 1 e) in
         let s' : port_sound d ≡ true = rw z at s in
@@ -149,22 +148,22 @@ word_kept d w =
 
 pub pinned_family : (d : Device) (l : ℕ) → (pinned d l).family ≡ d.family
 unfolding pinned
-pinned_family d l = elim (eqb d.family 1) as (λ b. (if b (with_ports d (portPinned d.ports l)) (with_pins d l)).family ≡ d.family) [ true ↦ refl | false ↦ refl ]
+pinned_family d l = elim (eqb d.family 1) as (λ b. (if b (with_ports d (port_pinned d.ports l)) (with_pins d l)).family ≡ d.family) [ true ↦ refl | false ↦ refl ]
 
 pub pinned_shift : (d : Device) (l : ℕ) → (pinned d l).shift ≡ d.shift
 unfolding pinned
-pinned_shift d l = elim (eqb d.family 1) as (λ b. (if b (with_ports d (portPinned d.ports l)) (with_pins d l)).shift ≡ d.shift) [ true ↦ refl | false ↦ refl ]
+pinned_shift d l = elim (eqb d.family 1) as (λ b. (if b (with_ports d (port_pinned d.ports l)) (with_pins d l)).shift ≡ d.shift) [ true ↦ refl | false ↦ refl ]
 
 pub pinned_mark : (d : Device) (l : ℕ) → (pinned d l).answer_mark ≡ d.answer_mark
 unfolding pinned
-pinned_mark d l = elim (eqb d.family 1) as (λ b. (if b (with_ports d (portPinned d.ports l)) (with_pins d l)).answer_mark ≡ d.answer_mark) [ true ↦ refl | false ↦ refl ]
+pinned_mark d l = elim (eqb d.family 1) as (λ b. (if b (with_ports d (port_pinned d.ports l)) (with_pins d l)).answer_mark ≡ d.answer_mark) [ true ↦ refl | false ↦ refl ]
 
 pins_kept : (d : Device) (l : ℕ) → Kept d (pinned d l)
 unfolding pinned
 pins_kept d l =
     record {
       family = pinned_family d l;
-      fitted = elim (eqb d.family 1) as (λ b. (if b (with_ports d (portPinned d.ports l)) (with_pins d l)).fitted ≡ d.fitted) [ true ↦ refl | false ↦ refl ];
+      fitted = elim (eqb d.family 1) as (λ b. (if b (with_ports d (port_pinned d.ports l)) (with_pins d l)).fitted ≡ d.fitted) [ true ↦ refl | false ↦ refl ];
       ports = λ n. rw (ne_eqb d.family 1 n);
     }
 

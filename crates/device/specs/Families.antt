@@ -7,7 +7,7 @@ use Rattle.words.specs.Addresses.{read_at}
 use Rattle.registers.specs.Registers.{data_of}
 use Rattle.port_words.specs.PortAddresses.{register_at}
 use Rattle.port_registers.specs.PortRegisters.{data_of as port_data}
-use Rattle.port_registers.specs.PortTaken.{taken as portTaken, pinned as portPinned, shift_word}
+use Rattle.port_registers.specs.PortTaken.{taken as port_taken, pinned as port_pinned, shift_word}
 use Rattle.port_registers.specs.PortSound.{sound_ports}
 use Rattle.device.specs.Record.{with_pins, with_shift, with_mark, with_ports}
 use Rattle.device.specs.Sound.{sound_of}
@@ -16,7 +16,7 @@ use Rattle.device.specs.declared.Device.{Device}
 
 -- a MAX6957 takes its word: after a read, D7 to D0 of the shift word become the register's data; the mark is D15 of the word
 abbrev pub ports_taken : Device → ℕ → Device
-ports_taken d w = with_mark (with_shift (with_ports d (portTaken d.ports w)) (shift_word d.ports w)) (if (bit 15 w) 1 0)
+ports_taken d w = with_mark (with_shift (with_ports d (port_taken d.ports w)) (shift_word d.ports w)) (if (bit 15 w) 1 0)
 
 -- a driver of either family takes its word
 unfoldable pub takes : Device → ℕ → Device
@@ -24,7 +24,7 @@ takes d w = if (eqb d.family 1) (ports_taken d w) (taken d w)
 
 -- pin levels given: 28 of a MAX6957, else five
 unfoldable pub pinned : Device → ℕ → Device
-pinned d l = if (eqb d.family 1) (with_ports d (portPinned d.ports l)) (with_pins d l)
+pinned d l = if (eqb d.family 1) (with_ports d (port_pinned d.ports l)) (with_pins d l)
 
 -- the data that a read at address a finds
 abbrev pub data_at : Device → ℕ → ℕ

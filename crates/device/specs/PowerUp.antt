@@ -6,7 +6,7 @@ use Rattle.digits.specs.Digits.{eight}
 use Rattle.digits.specs.declared.Planes.{Planes}
 use Rattle.controls.specs.declared.Controls.{Controls}
 use Rattle.controls.specs.declared.Config.{Config}
-use Rattle.port_registers.specs.PortPowerUp.{power_up as portPowerUp}
+use Rattle.port_registers.specs.PortPowerUp.{power_up as port_power_up}
 use Rattle.device.specs.Record.{with_family}
 use Rattle.device.specs.declared.Device.{Device}
 
@@ -41,7 +41,7 @@ power_up =
       answer_mark = 0;
       command = 0;
       family = 0;
-      ports = portPowerUp;
+      ports = port_power_up;
     }
 
 -- document 02, request 8: a MAX6957 at power-up. Both power-up records hold both register files at power-up, and differ in the family alone

@@ -2,7 +2,7 @@
 -- Assumes nothing.
 use Rattle.std.specs.Prelude.{ℕ}
 use Rattle.keys.specs.declared.Keys.{Keys}
-use Rattle.registers.specs.Record.{with_keys as keysReplaced, with_pins as pinsReplaced, with_blink as blinkReplaced}
+use Rattle.registers.specs.Record.{with_keys as keys_replaced, with_pins as pins_replaced, with_blink as blink_replaced}
 use Rattle.registers.specs.declared.Registers.{Registers}
 use Rattle.port_registers.specs.declared.PortRegisters.{PortRegisters}
 use Rattle.device.specs.declared.Device.{Device}
@@ -13,15 +13,15 @@ with_registers d x = record { registers = x; shift = d.shift; fitted = d.fitted;
 
 -- the key state
 abbrev pub with_keys : Device → Keys → Device
-with_keys d k = with_registers d (keysReplaced d.registers k)
+with_keys d k = with_registers d (keys_replaced d.registers k)
 
 -- the five pin levels
 abbrev pub with_pins : Device → ℕ → Device
-with_pins d n = with_registers d (pinsReplaced d.registers n)
+with_pins d n = with_registers d (pins_replaced d.registers n)
 
 -- the blink count
 abbrev pub with_blink : Device → ℕ → Device
-with_blink d n = with_registers d (blinkReplaced d.registers n)
+with_blink d n = with_registers d (blink_replaced d.registers n)
 
 -- the 16-bit shift word
 abbrev pub with_shift : Device → ℕ → Device

@@ -2,7 +2,7 @@
 -- Assumes nothing.
 use Rattle.ground.proofs.Names.{ℕ, ◌+◌, ◌-◌, ◌/◌, ◌%◌, ◌<◌, arith, Bool, true, false, not, ◌&&◌, List, [], ◌∷◌, map, ◌≡◌, refl, ap, sym, ◌∙◌, eqb, get_or, eqb-true, List·getD-map, bit, odd, all_at, tabulate}
 use Rattle.wiring.specs.Segments.{Segment, dp, 1dp, Light, nothing, glyph, point, first, second, light_of}
-use Rattle.glyphs.specs.Glyphs.{blank, hex_on, lit_by, light_on}
+use Rattle.glyphs.specs.Glyphs.{blank, hex_on, lit_by}
 use Rattle.glyphs.specs.Tables.{letters, characters, those, GlyphTables}
 
 -- D6 to D0, and D7

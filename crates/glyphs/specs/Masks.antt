@@ -1,4 +1,4 @@
--- Auxiliary: the segments that bytes light, as one number: segment s is bit `segmentEntry s`. Bits that no segment of the display has may be set too.
+-- Auxiliary: the segments that bytes light, as one number: segment s is bit `segment_entry s`. Bits that no segment of the display has may be set too.
 -- Assumes nothing.
 use Rattle.std.specs.Prelude.{ℕ, ◌+◌, ◌*◌, ◌/◌, ◌%◌, ◌<◌, Bool, List, [], ◌∷◌, ◌≡◌, eqb, get_or}
 use Rattle.ground.specs.Choice.{if, bit}

@@ -1,4 +1,4 @@
--- A word with an address of 0x20 or above, taken, leaves what `highTaken` says.
+-- A word with an address of 0x20 or above, taken, leaves what `high_taken` says.
 -- Assumes nothing.
 use Rattle.ground.proofs.Names.{ℕ, ◌/◌, ◌%◌, ◌^◌, ◌≤◌, ◌<◌, dec_lt, ℕ_discrete, arith, true, false, ◌≡◌, ◌∙◌, eqb, eqb-true, and_left, and_right, ltb, set-get_or, ltb-true, lt-ltb, le-ltb, eq-eqb, ne_eqb, bit}
 use Rattle.words.specs.Addresses.{high_register, alike_at, word_of}

@@ -1,14 +1,14 @@
--- A word, taken by a driver of the old family, leaves what `lowTaken` says; taken by a MAX6957, what `portsReplaced` does.
+-- A word, taken by a driver of the old family, leaves what `low_taken` says; taken by a MAX6957, what `ports_replaced` does.
 -- Assumes nothing.
-use Rattle.ground.proofs.Names.{ℕ, ◌/◌, ◌%◌, ◌<◌, dec_lt, arith, Bool, true, false, ◌≡◌, refl, sym, ap, ap₂, ◌∙◌, eqb, ltb, lt-ltb, le-ltb, eq-eqb, ne_eqb, if, bit}
+use Rattle.ground.proofs.Names.{ℕ, ◌/◌, ◌%◌, ◌<◌, dec_lt, arith, true, false, ◌≡◌, refl, ap, ap₂, ◌∙◌, lt-ltb, le-ltb, eq-eqb, ne_eqb, if, bit}
 use Rattle.words.specs.Addresses.{word_of}
 use Rattle.words.specs.declared.Word.{Word}
 use Rattle.words.specs.declared.Word.TheVariants.{Write, Read}
 use Rattle.device.specs.Record.{with_mark}
 use Rattle.device.specs.Taken.{obeyed, taken}
-use Rattle.port_registers.specs.PortTaken.{taken as portTaken, shift_word}
+use Rattle.port_registers.specs.PortTaken.{taken as port_taken, shift_word}
 use Rattle.port_registers.specs.declared.PortRegisters.{PortRegisters}
-use Rattle.port_high_words.specs.PortHighWords.{is_high, new_ports, new_shift as newPortShift}
+use Rattle.port_high_words.specs.PortHighWords.{is_high, new_ports, new_shift as new_port_shift}
 use Rattle.port_high_words.proofs.High.{high_ports}
 use Rattle.device.specs.Families.{takes}
 use Rattle.device.proofs.Families.{old_takes}
@@ -39,11 +39,11 @@ low_taken_lem d w h =
 pub low_place : (w : ℕ) → w < 65536 → (d : Device) → is_ports d.family ≡ false → takes d w ≡ low_taken d w
 low_place w h d e = old_takes d w e ∙ low_taken_lem d w h
 
--- and by one that is: all its registers are replaced, and where the address is 0x20 or above, by `newPorts`
-pub ports_low : (w : ℕ) → w < 65536 → (d : Device) → is_ports d.family ≡ true → takes d w ≡ ports_replaced d (portTaken d.ports w) (shift_word d.ports w) (new_mark w)
+-- and by one that is: all its registers are replaced, and where the address is 0x20 or above, by `new_ports`
+pub ports_low : (w : ℕ) → w < 65536 → (d : Device) → is_ports d.family ≡ true → takes d w ≡ ports_replaced d (port_taken d.ports w) (shift_word d.ports w) (new_mark w)
 unfolding takes
-ports_low w h d e = rw e (ap (ports_replaced d (portTaken d.ports w) (shift_word d.ports w)) (mark_is w h))
+ports_low w h d e = rw e (ap (ports_replaced d (port_taken d.ports w) (shift_word d.ports w)) (mark_is w h))
 
-pub ports_high : (w : ℕ) → w < 65536 → (d : Device) → is_ports d.family ≡ true → is_high w ≡ true → takes d w ≡ ports_replaced d (new_ports w d.ports) (newPortShift w d.ports) (new_mark w)
+pub ports_high : (w : ℕ) → w < 65536 → (d : Device) → is_ports d.family ≡ true → is_high w ≡ true → takes d w ≡ ports_replaced d (new_ports w d.ports) (new_port_shift w d.ports) (new_mark w)
 ports_high w h d e i =
     ports_low w h d e ∙ ap₂ (λ (x : PortRegisters) (s : ℕ). ports_replaced d x s (new_mark w)) (high_ports.registers d.ports w i) (high_ports.shift d.ports w i)

@@ -53,7 +53,7 @@ unpacked p interrupt =
 abbrev pub newly_packed : Packed → ℕ → ℕ
 newly_packed p closed = bit_and (bit_and closed p.pressed) (4294967295 - p.held)
 
--- `scannedGroup` of all groups
+-- `scanned_group` of all groups
 abbrev pub scanned_packed : Packed → ℕ → Packed
 scanned_packed p closed =
     record {

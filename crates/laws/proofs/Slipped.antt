@@ -1,6 +1,6 @@
 -- The proof of `specs/SlippedAccess.antt`'s laws: an access of at least 16n clocks shifts every old bit out, and a word taken decides shift word and mark.
 -- Assumes nothing.
-use Rattle.ground.proofs.Names.{ℕ, zero, suc, ◌-◌, ◌*◌, ◌/◌, ◌%◌, ◌≤◌, ◌<◌, le_of_suc-le-suc, not-suc-le-zero, arith, Bool, true, false, ◌&&◌, List, [], ◌∷◌, ◌++◌, map, append_assoc, ◌≡◌, refl, sym, ap, ap₂, ◌∙◌, eqb, ltb, if, bit, length, take, drop, get_or, replicate, length-map, drop_at, take_at, eqb-true, tabulate, tabulate_ext, Agree, and_left, and_right}
+use Rattle.ground.proofs.Names.{ℕ, zero, suc, ◌-◌, ◌*◌, ◌≤◌, ◌<◌, le_of_suc-le-suc, not-suc-le-zero, arith, Bool, true, false, ◌&&◌, List, [], ◌∷◌, ◌++◌, map, append_assoc, ◌≡◌, refl, sym, ap, ap₂, ◌∙◌, eqb, ltb, if, length, take, drop, get_or, replicate, length-map, drop_at, take_at, eqb-true, tabulate, tabulate_ext, Agree, and_left, and_right}
 use Rattle.refusals.specs.Refusals.{bytes_for}
 use Rattle.words.specs.Addresses.{word_of}
 use Rattle.words.specs.declared.Word.{Word}

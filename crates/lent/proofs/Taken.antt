@@ -5,8 +5,7 @@
 --     low                        any other
 --     taken_turn                 one record more
 -- Assumes nothing.
-use Rattle.ground.proofs.Names.{ℕ, ◌+◌, ◌<◌, Bool, true, false, List, ◌≡◌, sym, ap, ◌∙◌, length, get_or, set, set-set, get_or-set_same}
-use Rattle.digits.specs.declared.Planes.{Planes}
+use Rattle.ground.proofs.Names.{ℕ, ◌+◌, ◌<◌, true, false, List, ◌≡◌, sym, ap, ◌∙◌, length, get_or, set, set-set, get_or-set_same}
 use Rattle.registers.specs.Record.{with_planes}
 use Rattle.registers.specs.declared.Registers.{Registers}
 use Rattle.port_registers.specs.PortRecord.{with_stored, with_transition}

@@ -1,4 +1,4 @@
--- Auxiliary: the byte that the word at the stopping place leaves. `byteAfter` is what is believed.
+-- Auxiliary: the byte that the word at the stopping place leaves. `byte_after` is what is believed.
 -- Assumes nothing.
 use Rattle.std.specs.Prelude.{ℕ, zero, suc, ◌/◌, ◌%◌, List, eqb, get_or}
 use Rattle.ground.specs.Choice.{if}

@@ -1,7 +1,7 @@
 -- The access by what its passes leave: the number found, the words copied, the words taken.
---     access-number, access-refused, access-served     its outcome
---     access-whole                                     the same where all the records are passed at once
---     length-next                                      how many words the wire leaves
+--     access_number, access-refused, access-served     its outcome
+--     access_whole                                     the same where all the records are passed at once
+--     length_next                                      how many words the wire leaves
 -- Assumes nothing.
 use Rattle.ground.proofs.Names.{ℕ, ◌≤◌, ◌<◌, arith, Bool, true, false, ◌&&◌, List, [], ◌∷◌, ◌++◌, map, append-nil, ◌≡◌, refl, sym, ap, ◌∙◌, eqb, leb, length, get_or, take, drop, replicate, length-append, length-drop, length-map, List·getD-append, List·getD-map, take_at, take-length, drop-length, ext_get_or, eqb-true, eq-eqb, ne_eqb, le-leb, if, tabulate, length_tabulate, get_d_tabulate, tabulate_ext}
 use Rattle.refusals.specs.Refusals.{bytes_for, chain_refusal, sound_refusal, family_refusal, first_of, size_refusal}

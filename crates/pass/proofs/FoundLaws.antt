@@ -1,12 +1,12 @@
 -- The number as it is found is the number of the call, and the outcome of a call that names a driver by it.
 --     pass_below, pass_le, pass-in-below, pass-in-le, in-room-below, in-room-le     a record that is passed is one of the chain
---     call-first, call-records, call-old, row-found       the number found is `callRefusal`, or `rowRefusal`
---     records-found                                that of the records
---     access-old, access-mixed                     that of an access
---     in-range, own-zero                           what a number of 0 tells of the driver and the argument
---     give-served, give-refused, ask-served, ask-refused       the outcome
+--     call_first, call-records, call-old, row-found       the number found is `callRefusal`, or `rowRefusal`
+--     records_found                                that of the records
+--     access_old, access-mixed                     that of an access
+--     in_range, own-zero                           what a number of 0 tells of the driver and the argument
+--     give_served, give-refused, ask-served, ask-refused       the outcome
 -- Assumes nothing.
-use Rattle.ground.proofs.Names.{ℕ, zero, suc, ◌-◌, ◌≤◌, ◌<◌, arith, true≢false, Bool, true, false, ◌&&◌, List, [], ◌∷◌, ◌≡◌, refl, sym, ap, ◌∙◌, eqb, leb, ltb, length, get_or, set, take, take-length, List·getD-map, eqb-true, ne_eqb, leb-true, ltb-true, lt-ltb, le-leb, if, passed, and_left, and_right}
+use Rattle.ground.proofs.Names.{ℕ, zero, suc, ◌-◌, ◌≤◌, ◌<◌, arith, true≢false, Bool, true, false, ◌&&◌, List, [], ◌∷◌, ◌≡◌, refl, sym, ap, ◌∙◌, eqb, leb, ltb, length, get_or, set, take, take-length, List·getD-map, ne_eqb, leb-true, ltb-true, lt-ltb, le-leb, if, passed, and_left, and_right}
 use Rattle.refusals.specs.Refusals.{chain_refusal, driver_refusal, sound_refusal, family_refusal, first_of}
 use Rattle.refusals.proofs.RefusalLaws.{first_zero, found_rest}
 use Rattle.device.specs.Families.{families}

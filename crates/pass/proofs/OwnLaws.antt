@@ -1,7 +1,7 @@
 -- What a call is tested by, as the table has it.
 -- Assumes nothing.
-use Rattle.ground.proofs.Names.{ℕ, ◌+◌, ◌*◌, ◌/◌, ◌%◌, Bool, true, false, ◌&&◌, List, [], ◌∷◌, ◌≡◌, refl, sym, ap, eqb, leb, ltb, length, eqb-true, if}
-use Rattle.refusals.specs.Refusals.{lack_refusal, levels_refusal, first_of}
+use Rattle.ground.proofs.Names.{ℕ, ◌+◌, ◌*◌, ◌/◌, ◌%◌, Bool, true, false, ◌&&◌, [], ◌∷◌, ◌≡◌, refl, sym, ap, eqb, leb, ltb, length, eqb-true, if}
+use Rattle.refusals.specs.Refusals.{lack_refusal, first_of}
 use Rattle.refusals.proofs.RefusalLaws.{first_last}
 use Rattle.calls.specs.Calls.{Step, scan, levels, clocks, Question, plane, plane_shown, segments, brightness, shown, interrupt, answer_mark, look_back, ports}
 use Rattle.calls.specs.CallRefusals.{step_refusal, question_refusal, lacks_step, lacks_question}

@@ -1,6 +1,6 @@
 -- What the records passed tell: whether each is sound by its own family, and which families there are.
 --     seen_start, seen_more        the records one by one
---     seen-fit, seen-below         all of them are sound, and of a family below 2 ^ k
+--     seen_fit_lem, seen-below         all of them are sound, and of a family below 2 ^ k
 -- Assumes nothing.
 use Rattle.ground.proofs.Names.{ℕ, ◌+◌, ◌/◌, ◌%◌, ◌^◌, ◌<◌, add-one, arith, Bool, true, false, ◌&&◌, and_assoc, List, [], ◌∷◌, ◌++◌, ◌≡◌, refl, sym, ap, ◌∙◌, bit_or, eqb, ltb, length, get_or, take, take-suc, eqb-true, if}
 use mathlib.Core.Bool.{and-true}

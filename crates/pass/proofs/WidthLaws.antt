@@ -1,7 +1,7 @@
 -- The widths of a chain's records of the old family tell whether each is sound.
 --     all_start, all_more      the records one by one
---     or-small, or_byte, greater-small, cross       two numbers together pass a test where each does
---     fit-more                 one record of the old family more, whose bytes are bytes
+--     or_small, or_byte, greater-small, cross       two numbers together pass a test where each does
+--     fit_more                 one record of the old family more, whose bytes are bytes
 --     old_of, fit-old          all records: whether they are of the old family, and then whether they are sound
 -- Assumes nothing.
 use Rattle.ground.proofs.Names.{ℕ, ◌+◌, ◌/◌, ◌%◌, ◌^◌, ◌<◌, add-one, dec_lt, arith, Bool, true, false, ◌&&◌, and_assoc, List, [], ◌∷◌, ◌++◌, ◌≡◌, refl, sym, ap, ap₂, ◌∙◌, bit_or, or_lt, or_add_and, and_le_l, and_le_r, or_shr, or_mod, ltb, length, get_or, take, take-suc, lt-ltb, le-ltb, ltb-true, eq-eqb, and_left, and_right}

@@ -1,4 +1,4 @@
--- Auxiliary: what a pass over a chain's records leaves when it has come to the k-th. `shiftWords` and `allTaken` of `calls` are what is believed.
+-- Auxiliary: what a pass over a chain's records leaves when it has come to the k-th. `shift_words` and `all_taken` of `calls` are what is believed.
 -- Assumes nothing.
 use Rattle.std.specs.Prelude.{ℕ, List, ◌++◌, get_or, drop}
 use Rattle.ground.specs.Lists.{tabulate}

@@ -1,4 +1,4 @@
--- Auxiliary: what a call is tested by beside the records, as one number of six hexadecimal digits. `refusalBy` of `calls` is what is believed.
+-- Auxiliary: what a call is tested by beside the records, as one number of six hexadecimal digits. `refusal_by` of `calls` is what is believed.
 -- Assumes nothing.
 use Rattle.std.specs.Prelude.{ℕ, ◌+◌, ◌*◌, ◌/◌, ◌%◌, Bool, eqb, ltb}
 use Rattle.ground.specs.Choice.{if}

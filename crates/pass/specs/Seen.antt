@@ -1,4 +1,4 @@
--- Auxiliary: whether every record is sound by its own family, and which families there are. `allSound` and `familiesBelow` are what is believed.
+-- Auxiliary: whether every record is sound by its own family, and which families there are. `all_sound` and `families_below` are what is believed.
 -- Assumes nothing.
 use Rattle.std.specs.Prelude.{ℕ, ◌/◌, ◌%◌, Bool, true, ◌&&◌, List, [], ◌∷◌, eqb, ltb}
 use Rattle.std.specs.Int.Bits.{bit_or}

@@ -1,4 +1,4 @@
--- Auxiliary: whether every record of the old family is sound, from the bits of all their fields together. `allSound` is what is believed.
+-- Auxiliary: whether every record of the old family is sound, from the bits of all their fields together. `all_sound` is what is believed.
 -- Assumes nothing.
 use Rattle.std.specs.Prelude.{ℕ, ◌+◌, ◌*◌, ◌/◌, ◌%◌, ◌<◌, Bool, ◌&&◌, List, [], ◌∷◌, ltb}
 use Rattle.std.specs.Int.Bits.{bit_or}

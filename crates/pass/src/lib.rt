@@ -4,7 +4,7 @@
 ghost use Rattle.std.specs.Prelude.{◌≡◌, eqb, ltb, ◌<◌};
 ghost use Rattle.ground.specs.Choice.{if};
 ghost use Rattle.refusals.specs.Refusals.{chain_refusal, driver_refusal, sound_refusal, family_refusal};
-ghost use Rattle.calls.specs.Calls.{scan, levels as pinLevels, clocks as masterClocks, plane, segments, brightness, shown, interrupt, answer_mark, look_back, ports};
+ghost use Rattle.calls.specs.Calls.{scan, levels as pin_levels, clocks as master_clocks, plane, segments, brightness, shown, interrupt, answer_mark, look_back, ports};
 ghost use Rattle.pass.specs.Widths.{Bytes, eight_bytes, four_bytes, two_bytes, greater, no_widths, widths_with, fit, all_old};
 ghost use Rattle.pass.specs.Own.{argument_at, lack_at, row_lack_at, display_own, row_own, step_own, question_own};
 ghost use Rattle.pass.specs.Seen.{no_seen, seen_with, seen_fit};
@@ -381,14 +381,14 @@ fn six_where(refused: bool) -> u32
 
 // Pin levels: 6 above 31, or of a MAX6957 above 28 bits.
 pub fn levels_refusal(levels: u32) -> u32
-    ensures { result ≡ step_own (pinLevels levels) }
+    ensures { result ≡ step_own (pin_levels levels) }
 {
     six_where(31 < levels) + six_where(268435455 < levels) * 16
 }
 
 // Clocks: none are refused.
 pub fn clocks_refusal(clocks: u32) -> u32
-    ensures { result ≡ step_own (masterClocks clocks) }
+    ensures { result ≡ step_own (master_clocks clocks) }
 {
     display(0)
 }

@@ -1,5 +1,5 @@
 -- Auxiliary: the planner's part of one driver, for any numbers and lengths; and the drivers of a chain one after the other. `accesses`, `planned` and
--- `acceptedList` of `plans` are what is believed.
+-- `accepted_list` of `plans` are what is believed.
 -- Assumes nothing.
 use Rattle.std.specs.Prelude.{ℕ, zero, suc, ◌+◌, ◌*◌, ◌-◌, ◌/◌, Bool, ◌&&◌, List, [], ◌∷◌, ◌++◌, ltb, leb, length, get_or, set, replicate}
 use Rattle.ground.specs.Choice.{if}

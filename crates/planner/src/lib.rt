@@ -3,11 +3,11 @@
 
 ghost use Rattle.std.specs.Prelude.{◌+◌, ◌*◌, ◌%◌, ◌<◌, ◌≤◌, max, ◌&&◌, [], ◌∷◌, ◌++◌, ◌≡◌, eqb, ltb, length, replicate};
 ghost use Rattle.ground.specs.Choice.{if};
-ghost use Rattle.refusals.specs.Refusals.{first_of, wanted_refusal as wantedOf, list_refusal as list_of};
-ghost use Rattle.plans.specs.Act.{acted as actedBy, act_of};
-ghost use Rattle.plans.specs.Words.{keeps as keepsOf, allowed_by};
+ghost use Rattle.refusals.specs.Refusals.{first_of, wanted_refusal as wanted_of, list_refusal as list_of};
+ghost use Rattle.plans.specs.Act.{acted as acted_by, act_of};
+ghost use Rattle.plans.specs.Words.{keeps as keeps_of, allowed_by};
 ghost use Rattle.plans.specs.Lists.{words_at, wanted_at};
-ghost use Rattle.plans.specs.Least.{wrong as wrongBy, need as need_of, plain as plain_of, least as leastOf};
+ghost use Rattle.plans.specs.Least.{wrong as wrong_by, need as need_of, plain as plain_of, least as least_of};
 ghost use Rattle.plans.specs.Plan.{clear_word, digit_words, steps, plan_by};
 ghost use Rattle.planner.specs.OneDriver.{put, reach, in_room, with_plan, with_driver, from_planes, accepts_at};
 
@@ -34,7 +34,7 @@ pub struct PlanCheckAnswer {
 
 // 12, where there is no number yet: the wanted contents aren't 32 bytes for each of n drivers.
 pub fn wanted_refusal(first: u8, n: usize, wanted: usize) -> u8
-    ensures { result ≡ first_of (first ∷ wantedOf n wanted ∷ []) }
+    ensures { result ≡ first_of (first ∷ wanted_of n wanted ∷ []) }
 {
     if first != 0 {
         return first;
@@ -87,7 +87,7 @@ pub fn check_answer(number: u8, n: usize, words: usize, each: bool) -> PlanCheck
 
 // 1 where a byte isn't right.
 fn wrong(a: u8, x: u8) -> u8
-    ensures { result ≡ wrongBy (eqb a x) }
+    ensures { result ≡ wrong_by (eqb a x) }
 {
     if a == x { 0 } else { 1 }
 }
@@ -124,7 +124,7 @@ fn plain(held: Planes, wanted: &[u8], i: usize) -> usize
 // The least number of words for one driver.
 fn least(held: Planes, wanted: &[u8], i: usize) -> usize
     requires { 32 * i + 32 ≤ length wanted.now }
-    ensures { result ≡ leastOf held (wanted_at wanted.now i) }
+    ensures { result ≡ least_of held (wanted_at wanted.now i) }
 {
     let kept = plain(held, wanted, i);
     let anew = 1 + plain(held.cleared_if(true), wanted, i);
@@ -309,7 +309,7 @@ pub fn write_driver(list: &mut [u16], wanted: &[u8], n: usize, k: usize, i: usiz
 
 // Configuration data that keeps I, E, B and S, with P, T and X 0.
 fn keeps(c: Config, v: u16) -> bool
-    ensures { result ≡ keepsOf c v }
+    ensures { result ≡ keeps_of c v }
 {
     let stored = (v / 64 % 2 == c.i as u16)
         & (v / 8 % 2 == c.e as u16)
@@ -330,7 +330,7 @@ fn allowed(c: Config, w: u16) -> bool
 
 // The planes after an allowed word.
 fn acted(mut p: Planes, w: u16) -> Planes
-    ensures { result ≡ actedBy p (act_of w) }
+    ensures { result ≡ acted_by p (act_of w) }
 {
     let row = w / 4096;
     let k = (w / 256 % 16) as usize;

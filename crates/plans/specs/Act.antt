@@ -1,4 +1,4 @@
--- Auxiliary: what allowed words do to the planes alone. `afterWords` is what is believed; proofs/Act.antt shows that the two agree.
+-- Auxiliary: what allowed words do to the planes alone. `after_words` is what is believed; proofs/Act.antt shows that the two agree.
 -- Assumes nothing.
 use Rattle.std.specs.Prelude.{ℕ, ◌/◌, ◌%◌, ◌&&◌, List, [], ◌∷◌, eqb}
 use Rattle.ground.specs.Choice.{if, bit}

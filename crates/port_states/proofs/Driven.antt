@@ -1,6 +1,6 @@
 -- LED currents, display test and shutdown.
 -- Assumes nothing.
-use Rattle.ground.proofs.Names.{ℕ, ◌+◌, ◌-◌, ◌/◌, ◌%◌, ◌<◌, ◌≤◌, arith, Bool, true, false, not, ◌&&◌, [], ◌∷◌, ◌≡◌, refl, sym, ap, ◌∙◌, eqb, ne_eqb, eq-eqb, get_or, replicate, mod-eq_of_lt, if, bit, odd, tabulate, tabulate_ext, get_d_tabulate}
+use Rattle.ground.proofs.Names.{ℕ, ◌+◌, ◌-◌, ◌/◌, ◌%◌, ◌<◌, ◌≤◌, arith, Bool, true, false, not, ◌&&◌, ◌≡◌, refl, ap, ◌∙◌, eqb, ne_eqb, get_or, replicate, mod-eq_of_lt, if, bit, odd, tabulate, tabulate_ext, get_d_tabulate}
 use Rattle.port_registers.specs.PortRecord.{with_test}
 use Rattle.port_registers.specs.declared.PortRegisters.{PortRegisters}
 use Rattle.port_states.specs.PortStates.{pair_of, own_nibble, nibble_of, level_driven, state_of, port_number, states_of}

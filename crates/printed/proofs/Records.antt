@@ -1,6 +1,6 @@
 -- The records of a script, one after another, and each byte of one.
 -- Assumes nothing.
-use Rattle.ground.proofs.Names.{ℕ, zero, suc, ◌+◌, ◌*◌, ◌/◌, ◌%◌, ◌-◌, ◌≤◌, ◌<◌, arith, Bool, true, false, ◌&&◌, true≢false, List, [], ◌∷◌, ◌++◌, ◌≡◌, refl, sym, ap, ◌∙◌, eqb, leb, length, take, drop, replicate, tabulate, length-append, take_at, drop_at, eqb-true, leb-true, ne_eqb, le-leb, if, and_left, and_right, div-add-mod'}
+use Rattle.ground.proofs.Names.{ℕ, zero, suc, ◌+◌, ◌*◌, ◌-◌, ◌≤◌, ◌<◌, arith, Bool, true, false, ◌&&◌, true≢false, List, [], ◌∷◌, ◌++◌, ◌≡◌, refl, sym, ap, ◌∙◌, eqb, leb, length, drop, replicate, tabulate, length-append, take_at, drop_at, eqb-true, leb-true, le-leb, if, and_left, and_right, div-add-mod'}
 use Rattle.calls.specs.Calls.{scan, levels, clocks, segments, access, give, ask}
 use Rattle.printed.specs.Format.{byte, kind_of, body_length, size_of, body_of, length_fits, well_formed, call_of, Item, chain, call, malformed, item_at, items_after, items}
 use Rattle.printed.specs.ByteByByte.{entry, Unfit, ByteByByte}

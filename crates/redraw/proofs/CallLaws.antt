@@ -1,8 +1,8 @@
 -- The outcome of the planner's call and of its check, by the number as it is found and by the passes over the chain.
 --     own_is     the number before 13.        own-zero       what a number of 0 tells of the chain and of the wanted contents
---     plan-outcome, check-outcome      the outcomes
+--     plan_outcome, check-outcome      the outcomes
 -- Assumes nothing.
-use Rattle.ground.proofs.Names.{ℕ, ◌*◌, ◌%◌, ◌<◌, ◌≤◌, arith, Bool, true, false, not, ◌&&◌, List, [], ◌∷◌, ◌++◌, ◌≡◌, refl, sym, ap, ◌∙◌, eqb, ltb, length, drop, eqb-true, ltb-true, ltb-false, le-leb, lt-ltb, if, passed, and_left, and_right}
+use Rattle.ground.proofs.Names.{ℕ, ◌*◌, ◌%◌, ◌<◌, ◌≤◌, arith, Bool, true, false, not, ◌&&◌, List, [], ◌∷◌, ◌++◌, ◌≡◌, refl, sym, ap, ◌∙◌, eqb, ltb, length, drop, eqb-true, ltb-true, ltb-false, lt-ltb, if, passed, and_left, and_right}
 use Rattle.refusals.specs.Refusals.{chain_refusal, sound_refusal, family_refusal, lack_refusal, wanted_refusal, list_refusal, first_of}
 use Rattle.refusals.proofs.RefusalLaws.{first_zero, first_last, found_last}
 use Rattle.device.specs.Families.{families}

@@ -2,7 +2,7 @@
 --     passed_below                       a driver that is passed is one of the chain
 --     reach_turn, accept_turn, list_turn
 -- Assumes nothing.
-use Rattle.ground.proofs.Names.{ℕ, ◌+◌, ◌<◌, Bool, ◌&&◌, List, ◌≡◌, add-one, subst, ap, ◌∙◌, length, get_or, max}
+use Rattle.ground.proofs.Names.{ℕ, ◌+◌, ◌<◌, Bool, ◌&&◌, List, ◌≡◌, add-one, subst, length, get_or, max}
 use Rattle.device.specs.PowerUp.{power_up}
 use Rattle.device.specs.declared.Device.{Device}
 use Rattle.pass.specs.Found.{to_pass}

@@ -1,6 +1,6 @@
 -- The first number of a list that isn't 0, and what rows that gave 0 tell.
---     first-zero, first-last, found-last, found-rest       a list of numbers
---     size-served, segments-served, plane-served       what calls that are served have
+--     first_zero, first-last, found-last, found-rest       a list of numbers
+--     size_served, segments-served, plane-served       what calls that are served have
 -- Assumes nothing.
 use Rattle.ground.proofs.Names.{ℕ, ◌<◌, ◌≤◌, arith, Bool, true, false, ◌&&◌, List, [], ◌∷◌, ◌++◌, ◌≡◌, refl, sym, eqb, leb, ltb, length, eqb-true, eqb-false, leb-true, ltb-true, ltb-false, if, passed, and_left, and_right}
 use Rattle.refusals.specs.Refusals.{bytes_for, clocks_refusal, sent_refusal, room_refusal, segments_refusal, plane_refusal, first_of, size_refusal}

@@ -4,7 +4,7 @@ use Rattle.ground.proofs.Names.{ℕ, ◌/◌, ◌%◌, ◌^◌, ◌<◌, arith, 
 use Rattle.words.specs.declared.Plane.{Plane}
 use Rattle.words.specs.declared.Plane.TheVariants.{P0, P1}
 use Rattle.words.specs.declared.KeyGroup.{KeyGroup}
-use Rattle.words.specs.declared.Register.TheVariants.{Control, Configuration, KeyMask, KeyDebounced, KeyPressed, Intensity, Digit, BothPlanes}
+use Rattle.words.specs.declared.Register.TheVariants.{Control, Configuration, KeyMask, KeyDebounced, KeyPressed, Intensity, Digit}
 use Rattle.words.specs.declared.ControlRegister.{ControlRegister}
 use Rattle.words.specs.declared.ControlRegister.TheVariants.{GpioData}
 use Rattle.keys.specs.Keys.{group_of, groups_of, closed_of, newly, scanned_keys}

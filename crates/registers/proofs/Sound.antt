@@ -14,7 +14,7 @@ use Rattle.registers.specs.Registers.{written, after_read}
 use Rattle.keys.specs.declared.Keys.{Keys}
 use Rattle.registers.specs.declared.Registers.{Registers}
 
--- the five tests of `soundRegisters`
+-- the five tests of `sound_registers`
 pub record Parts (x : Registers) : Type 0 where
   pub controls : sound_controls x.controls ≡ true
   pub config : sound_config x.config ≡ true

@@ -3,7 +3,7 @@
 
 ghost use Rattle.std.specs.Prelude.{◌-◌, ◌≤◌, ◌≡◌, length, get_or, set, take, replicate};
 ghost use Rattle.device.specs.PowerUp.{power_up};
-ghost use Rattle.calls.specs.Calls.{access as accessCall, give, scan as scanStep, levels as levelsStep, clocks as clocksStep, segments as segmentsQuestion};
+ghost use Rattle.calls.specs.Calls.{access as access_call, give, scan as scan_step, levels as levels_step, clocks as clocks_step, segments as segments_question};
 ghost use Rattle.device.specs.Families.{families};
 ghost use Rattle.calls.specs.CallRefusals.{families_below, all_sound};
 ghost use Rattle.pass.specs.Seen.{no_seen, seen_of};
@@ -131,7 +131,7 @@ impl Row {
 
     // A key scan of one driver: the closed keys of groups A to D.
     pub fn scan(self, driver: usize, a: u8, b: u8, c: u8, d: u8) -> Done
-        ensures { result ≡ done_on self (give driver (scanStep a b c d)) }
+        ensures { result ≡ done_on self (give driver (scan_step a b c d)) }
     {
         let number = self.number(driver, pass::scan_refusal(a, b, c, d));
         if number != 0 {
@@ -143,7 +143,7 @@ impl Row {
 
     // The pin levels of one driver.
     pub fn set_pins(self, driver: usize, levels: u32) -> Done
-        ensures { result ≡ done_on self (give driver (levelsStep levels)) }
+        ensures { result ≡ done_on self (give driver (levels_step levels)) }
     {
         let number = self.number(driver, pass::levels_refusal(levels));
         if number != 0 {
@@ -155,7 +155,7 @@ impl Row {
 
     // Master clocks given to one driver.
     pub fn add_clocks(self, driver: usize, clocks: u32) -> Done
-        ensures { result ≡ done_on self (give driver (clocksStep clocks)) }
+        ensures { result ≡ done_on self (give driver (clocks_step clocks)) }
     {
         let number = self.number(driver, pass::clocks_refusal(clocks));
         if number != 0 {
@@ -196,7 +196,7 @@ impl Row {
 
     // Clocks through the chain: the answer goes to the room, and every driver takes its word.
     pub fn access(self, clocks: usize, sent: &[u8], room: &mut [u8]) -> Done
-        ensures { (result ≡ done_on self (accessCall clocks sent.now room.old)) × (room.new ≡ reply_on self (accessCall clocks sent.now room.old)) }
+        ensures { (result ≡ done_on self (access_call clocks sent.now room.old)) × (room.new ≡ reply_on self (access_call clocks sent.now room.old)) }
     {
         let n = self.length();
         let first = pass::access_by_arguments(n, clocks, sent.len(), room.len());
@@ -214,7 +214,7 @@ impl Row {
 
     // What a cathode of one driver shows under two glyph tables, and the driver's answer mark.
     pub fn show(self, driver: usize, cathode: usize, font14: &[u16], font16: &[u16]) -> Shown
-        ensures { result ≡ shown_on self driver (segmentsQuestion cathode font14.now font16.now) }
+        ensures { result ≡ shown_on self driver (segments_question cathode font14.now font16.now) }
     {
         let own = pass::segments_refusal(cathode, font14, font16);
         let number = self.number(driver, own);

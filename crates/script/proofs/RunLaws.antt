@@ -5,7 +5,7 @@ use Rattle.refusals.specs.Refusals.{bytes_for}
 use Rattle.refusals.proofs.RefusalLaws.{size_served as sizes-fit}
 use Rattle.device.specs.PowerUp.{power_up, fresh_chain}
 use Rattle.device.specs.declared.Device.{Device}
-use Rattle.calls.specs.Calls.{Step, Question, Call, access, give, ask, ask_chain}
+use Rattle.calls.specs.Calls.{Question, Call, access, give, ask, ask_chain}
 use Rattle.calls.specs.Outcome.{number, after}
 use Rattle.calls.proofs.Accepted.{number_says}
 use Rattle.calls.proofs.Records.{length_after}
@@ -15,8 +15,7 @@ use Rattle.row.specs.declared.Done.{Done}
 use Rattle.row.specs.declared.Shown.{Shown}
 use Rattle.printed.specs.Lines.{each, hex_byte, pin_text, answer_line, mark_letter, show_line, refusal_line, line_for}
 use Rattle.printed.specs.Script.{named_mark}
-use Rattle.script.specs.Progress.{Written, Given, Obeyed}
-use Rattle.script.specs.declared.Progress.{Progress}
+use Rattle.script.specs.Progress.{Written, Obeyed}
 use Rattle.script.proofs.RoomLaws.{decimal_short, length_each}
 
 -- a part of some bytes to their end
@@ -104,12 +103,6 @@ answered r c sent room size at out out' back done end e z b h w =
       short =
           omega (arith, w.place, answer_length (take (bytes_for c) back), length-take (bytes_for c) back, (access_fits r c sent room n).1);
     }
-
--- a scan, pin levels or clocks
-pub given_obeyed : (r : Row) (j : ℕ) (s : Step) (size at : ℕ) (out out' : List ℕ) (done : Done) (p : Progress)
-    → done ≡ done_on r (give j s) → 2 ≤ size → Given done at out out' p → Obeyed r (give j s) size at out out' p
-given_obeyed r j s size at out out' done p e h g =
-    record { row_after = g.row_after ∙ rw e; line = rw e at g.line; short = omega (arith, g.short) }
 
 module _ (r : Row) (j : ℕ) (q : Question) (size at : ℕ) (out out' : List ℕ) (a : Shown) (end : ℕ) (e : a ≡ shown_on r j q) where
   same_answer : a.number ≡ number_on r (ask j q)

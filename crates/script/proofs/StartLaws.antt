@@ -1,10 +1,9 @@
 -- Where a run starts, and what a script prints from there.
 -- Assumes nothing.
-use Rattle.ground.proofs.Names.{ℕ, ◌+◌, ◌*◌, ◌/◌, ◌≤◌, ◌<◌, arith, Bool, true, false, ◌&&◌, List, [], ◌∷◌, ◌++◌, ◌≡◌, refl, ltb, length, drop, eq-eqb, ne_eqb, lt-ltb, le-ltb, ltb-false, if}
-use Rattle.device.specs.PowerUp.{fresh_chain}
-use Rattle.printed.specs.Lines.{chain_line, refusal_line}
+use Rattle.ground.proofs.Names.{ℕ, ◌≤◌, ◌<◌, arith, false, List, [], ◌∷◌, ◌≡◌, refl, length, eq-eqb, ne_eqb, lt-ltb, le-ltb, if}
+use Rattle.printed.specs.Lines.{refusal_line}
 use Rattle.printed.specs.Format.{byte, kind_of, body_length, size_of, well_formed, items_after, items}
-use Rattle.printed.specs.Script.{run_lines, assumed_chain, items_printed, longest, printed}
+use Rattle.printed.specs.Script.{assumed_chain, items_printed, longest, printed}
 use Rattle.printed.specs.Run.{room_for, ran_of, out_after}
 use Rattle.script.specs.Progress.{Written, Started}
 use Rattle.printed.specs.declared.Ran.{Ran}
@@ -52,21 +51,7 @@ module _ (s : List ℕ) (size : ℕ) (e : size ≡ if (well_formed s) (size_of s
           let h : 0 < length (b ∷ r) = omega arith in
           record { chain_length = rw (items_first (b ∷ r) h, m); others = rw (items_first (b ∷ r) h, m); within = omega arith }
 
-module _ (s : List ℕ) (p : Start) (w : Started s p) where
-  -- a chain of 1 to 16 drivers
-  pub prints_lines : (ltb 0 p.n && ltb p.n 17) ≡ true
-      → items_printed (items s) ≡ chain_line p.n ++ run_lines (items (drop p.from s)) (fresh_chain p.n)
-  prints_lines t = rw (← w.chain_length, t, ← w.others)
-
-  -- a chain refused with 1
-  pub prints_refusal : (ltb 0 p.n && ltb p.n 17) ≡ false → items_printed (items s) ≡ refusal_line 1
-  prints_refusal t = rw (← w.chain_length, t)
-
 module _ (s out : List ℕ) where
-  -- less room than suffices
-  pub too_little : length out < room_for (length s) → (◌≡◌ {A = Ran} (record { number = 5; length = 0 }) (ran_of s out)) × (out ≡ out_after s out) × (0 ≤ length out)
-  too_little h = (rw (lt-ltb _ _ h), rw (lt-ltb _ _ h), omega arith)
-
   -- room that suffices, and what is printed in it
   pub ran : (out' : List ℕ) (end : ℕ) → room_for (length s) ≤ length out → Written (printed s) 0 out out' end → end ≤ length out
       → (◌≡◌ {A = Ran} (record { number = 0; length = end }) (ran_of s out)) × (out' ≡ out_after s out) × (end ≤ length out')
@@ -82,18 +67,3 @@ printed_long s h = rw (lt-ltb _ _ h)
 pub printed_items : (s : List ℕ) → length s ≤ longest → printed s ≡ items_printed (items s)
 unfolding printed
 printed_items s h = rw (le-ltb _ _ h)
-
--- room that suffices for any script
-room_most : (n : ℕ) → room_for n ≤ 262160
-room_most n = go (ltb longest n) refl
-  where
-    go : (b : Bool) → ltb longest n ≡ b → if b 4 (16 + 4 * n) ≤ 262160
-    go true e = omega arith
-    go false e = omega (arith, ltb-false longest n e)
-
-pub always_served : (s out out' : List ℕ) (r : Ran) → length out ≡ 262160 → r ≡ ran_of s out → out' ≡ out_after s out
-    → (r.length ≡ length (printed s)) × (out' ≡ printed s ++ drop r.length out)
-always_served s out out' r l e o =
-    let t = le-ltb (length out) (room_for (length s)) (omega (arith, room_most (length s))) in
-    let n : r.length ≡ length (printed s) = rw (e, t) in
-    (n, rw (o, t, n))

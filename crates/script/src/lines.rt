@@ -1,6 +1,6 @@
 // The lines that a run prints, written into lent room from a place on. Each function gives back the place after its line.
 ghost use Rattle.std.specs.Prelude.{◌+◌, ◌*◌, ◌<◌, ◌≤◌, ◌≡◌, length};
-ghost use Rattle.printed.specs.Lines.{digit as digit_of, decimal as decimalOf, chain_line, refusal_line, hex_digit, hex_byte, pin_text, each, answer_line, letter as letterOf, mark_letter, show_line};
+ghost use Rattle.printed.specs.Lines.{digit as digit_of, decimal as decimal_of, chain_line, refusal_line, hex_digit, hex_byte, pin_text, each, answer_line, letter as letter_of, mark_letter, show_line};
 ghost use Rattle.script.specs.Progress.{Written};
 
 // Some bytes as they are.
@@ -27,8 +27,8 @@ fn digit(v: usize) -> u8
 
 // A number of at most two digits, and the line's end.
 fn decimal(n: usize, out: &mut [u8], at: usize) -> usize
-    requires { at + length (decimalOf n) ≤ length out.old }
-    ensures { Written (decimalOf n) at out.old out.new result }
+    requires { at + length (decimal_of n) ≤ length out.old }
+    ensures { Written (decimal_of n) at out.old out.new result }
 {
     if n < 10 {
         return text(&[digit(n), b'\n'], out, at);
@@ -94,7 +94,7 @@ pub(crate) fn answer_line(bytes: &[u8], out: &mut [u8], at: usize) -> usize
 
 // A pin's letter.
 fn letter(pin: u8) -> u8
-    ensures { result ≡ letterOf pin }
+    ensures { result ≡ letter_of pin }
 {
     match pin {
         1 => b'C',

@@ -1,8 +1,9 @@
 -- A question to a driver: its outcome by the number that was found, and by an answer that has a number and what is given back.
 --     asked, unasked        where the number is 0, and where it isn't
---     question_there        a question that is served is within its limits
+--     asked_within          the same, where the answer tells again whether the question is within its limits
+--     question_there        for it is
 -- Assumes nothing.
-use Rattle.ground.proofs.Names.{ℕ, ◌-◌, ◌<◌, ◌≤◌, arith, List, [], ◌≡◌, sym, ap, ◌∙◌, length, get_or}
+use Rattle.ground.proofs.Names.{ℕ, ◌-◌, arith, List, ◌≡◌, sym, ap, ◌∙◌, get_or}
 use Rattle.device.specs.PowerUp.{power_up}
 use Rattle.device.specs.declared.Device.{Device}
 use Rattle.calls.specs.Calls.{Question, ask}
@@ -18,14 +19,17 @@ module _ (ds : List Device) (j : ℕ) (q : Question) {own number : ℕ} (o : own
   found : number ≡ call_refusal ds j (question_own q)
   found = e ∙ ap (call_refusal ds j) o
 
-  pub question_there : number ≡ 0 → question_refusal q ≡ 0
-  question_there z = question_zero ds j q (sym found ∙ z)
-
   pub asked : (d : Device) → number ≡ 0 → outcome (ask j q) ds ≡ record { number = 0; records = ds; back = answer_to q (get_or ds (j - 1) d) }
   asked d z =
       let there = in_range ds j (question_own q) (sym found ∙ z) in
       let same = default d power_up ds (j - 1) (omega (arith, there)) in
       rw same (ask_served ds j q (sym found ∙ z))
+
+  pub question_there : number ≡ 0 → question_refusal q ≡ 0
+  question_there z = question_zero ds j q (sym found ∙ z)
+
+  pub asked_within : (d : Device) {k : ℕ} → number ≡ 0 → k ≡ question_refusal q → outcome (ask j q) ds ≡ record { number = k; records = ds; back = answer_to q (get_or ds (j - 1) d) }
+  asked_within d z p = rw (p, question_there z) (asked d z)
 
   pub unasked : (number ≡ 0 → ⊥) → outcome (ask j q) ds ≡ record { number = number; records = ds; back = refused_to q }
   unasked z = rw found (ask_refused ds j q (λ f. z (found ∙ f)))

@@ -2,7 +2,7 @@
 -- doesn't matter what a read past the end gives.
 --     given, kept      where the number is 0, and where it isn't
 -- Assumes nothing.
-use Rattle.ground.proofs.Names.{ℕ, ◌-◌, ◌<◌, ◌≤◌, arith, List, [], ◌≡◌, sym, ap, ◌∙◌, length, get_or, set}
+use Rattle.ground.proofs.Names.{ℕ, ◌-◌, arith, List, [], ◌≡◌, sym, ap, ◌∙◌, get_or, set}
 use Rattle.device.specs.PowerUp.{power_up}
 use Rattle.device.specs.declared.Device.{Device}
 use Rattle.calls.specs.Calls.{Step, give}

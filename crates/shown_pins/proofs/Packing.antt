@@ -1,6 +1,6 @@
 -- A pin's byte of a packed row and the segments that aren't lit is the number of the pin by the wiring table.
 -- Assumes nothing.
-use Rattle.ground.proofs.Names.{ℕ, zero, suc, ◌+◌, ◌-◌, ◌*◌, ◌/◌, ◌%◌, ◌^◌, ◌<◌, arith, Bool, true, false, not, ◌&&◌, ◌||◌, Bool·beq, ◌≡◌, refl, ap, sym, ◌∙◌, bit_and, bit_or, and_le_r, and_zero_r, or_zero_l, or_zero_r, and_mask, eqb, ltb, eqb-true, lt-ltb, ltb-true, ltb-false, if, bit, all, all_at, low_bit, high_bit, not_bit, same, if_small}
+use Rattle.ground.proofs.Names.{ℕ, zero, suc, ◌+◌, ◌-◌, ◌*◌, ◌/◌, ◌%◌, ◌^◌, ◌<◌, arith, Bool, true, false, not, ◌&&◌, Bool·beq, ◌≡◌, refl, ap, sym, ◌∙◌, bit_and, bit_or, and_le_r, and_zero_r, or_zero_l, or_zero_r, and_mask, eqb, ltb, eqb-true, lt-ltb, ltb-true, ltb-false, if, bit, all, all_at, low_bit, high_bit, not_bit, same, if_small}
 use Rattle.wiring.specs.Table.{entry_at}
 use Rattle.wiring.specs.PackedRows.{byte_of, packed, lit_number, entry_bit, packed_entries, pin_entry, packed_pins}
 use Rattle.wiring.specs.declared.Display.{Display}

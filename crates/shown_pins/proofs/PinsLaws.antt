@@ -1,6 +1,6 @@
 -- The pins of a cathode, eight at a time, are those of the definition.
 -- Assumes nothing.
-use Rattle.ground.proofs.Names.{ℕ, ◌+◌, ◌-◌, ◌^◌, ◌<◌, true, false, List, ◌≡◌, ap, ◌∙◌, get_or, lt-ltb, if, tabulate, tabulate_ext}
+use Rattle.ground.proofs.Names.{ℕ, ◌+◌, ◌-◌, ◌^◌, ◌<◌, true, false, List, ◌≡◌, ap, ◌∙◌, get_or, tabulate, tabulate_ext}
 use Rattle.device.specs.declared.Device.{Device}
 use Rattle.wiring.specs.Table.{entry_at}
 use Rattle.wiring.specs.PackedRows.{packed_row}
@@ -9,7 +9,6 @@ use Rattle.wiring.specs.declared.PackedRow.{PackedRow}
 use Rattle.brightness.specs.Dark.{dark}
 use Rattle.display.specs.Cathode.{display_of, shown_byte}
 use Rattle.display.specs.Pins.{pin_code, pin_at}
-use Rattle.display.specs.declared.Pin.TheVariants.{NotDriven}
 use Rattle.display.specs.ByTable.{lit_segments, pin_by, table_pin}
 use Rattle.display.proofs.Wires.{pin_by_pin}
 use Rattle.shown_pins.specs.PackedPins.{pins_by}

@@ -1,6 +1,6 @@
 -- What a record's type says of its planes: sixteen digits in each.
 -- Assumes nothing.
-use Rattle.ground.proofs.Names.{List, sym, ◌∙◌, length-map}
+use Rattle.ground.proofs.Names.{List}
 use mir.Val.{Val}
 use denote.Laws.{Is}
 use denote.Struct.Declared as Declared

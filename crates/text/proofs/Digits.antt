@@ -1,6 +1,6 @@
 -- A number's digits, from the last on.
 -- Assumes nothing.
-use Rattle.ground.proofs.Names.{ℕ, zero, suc, ◌+◌, ◌-◌, ◌/◌, ◌^◌, ◌<◌, ◌≤◌, arith, List, [], ◌∷◌, ◌++◌, ◌≡◌, sym, ◌∙◌, length, set, drop, length-append, Bool, true, false, ltb, if, dec_lt, length-set, drop-cons, drop-set-lt, get_or-set_same, append_assoc, append-nil, drop_of_length-le, le-ltb, lt-ltb}
+use Rattle.ground.proofs.Names.{ℕ, zero, suc, ◌-◌, ◌/◌, ◌^◌, ◌<◌, ◌≤◌, arith, List, [], ◌∷◌, ◌++◌, ◌≡◌, sym, ◌∙◌, length, set, drop, length-append, Bool, true, false, ltb, if, dec_lt, length-set, drop-cons, drop-set-lt, get_or-set_same, append_assoc, append-nil, drop_of_length-le, le-ltb, lt-ltb}
 use Rattle.text.specs.Text.{digit, digits_in, decimal}
 
 -- one digit more is left before the last

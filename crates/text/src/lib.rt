@@ -3,7 +3,7 @@
 #![tactic(auto)]
 
 ghost use Rattle.std.specs.Prelude.{◌≡◌};
-ghost use Rattle.text.specs.Text.{decimal as decimalOf};
+ghost use Rattle.text.specs.Text.{decimal as decimal_of};
 ghost use Rattle.text.specs.Examples.{Examples};
 ghost use Rattle.text.specs.Written.{room_after, place_after};
 
@@ -30,8 +30,8 @@ pub fn put(bytes: &[u8], out: &mut [u8], at: usize) -> usize
 
 // A number in decimal.
 pub fn decimal(v: u64, out: &mut [u8], at: usize) -> usize
-    ensures place { result ≡ place_after (decimalOf v) at out.old }
-    ensures room { out.new ≡ room_after (decimalOf v) at out.old }
+    ensures place { result ≡ place_after (decimal_of v) at out.old }
+    ensures room { out.new ≡ room_after (decimal_of v) at out.old }
 {
     let mut digits = [0u8; 20];
     let mut place = 19;

@@ -1,4 +1,4 @@
--- Auxiliary: a call on the two-wire bus by value, from the number that its records give. `busOutcome` of `bus` is what is believed.
+-- Auxiliary: a call on the two-wire bus by value, from the number that its records give. `bus_outcome` of `bus` is what is believed.
 -- Assumes nothing.
 use Rattle.std.specs.Prelude.{ℕ, Bool, List, [], ◌∷◌, eqb, ltb, get_or, take, drop}
 use Rattle.ground.specs.Choice.{if}

@@ -1,5 +1,6 @@
 // The calls on a two-wire bus of MAX6955: a lent row of their records. Parts are counted from 1.
 #![tactic(auto)]
+
 ghost use Rattle.std.specs.Prelude.{◌≡◌, [], ◌∷◌};
 ghost use Rattle.bus.specs.BusCalls.{start, put, get, stop};
 ghost use Rattle.bus.specs.BusOutcome.{bus_outcome};
@@ -9,8 +10,7 @@ use device::Device;
 use transfers::{BusAnswer, ByteAnswer, Straps};
 
 // A start: from every bus state the slave byte is awaited.
-#[unsafe(no_mangle)]
-pub extern "C" fn max6955_start(parts: &[Device], bus: Bus, straps: Straps) -> BusAnswer
+pub fn max6955_start(parts: &[Device], bus: Bus, straps: Straps) -> BusAnswer
     ensures { bus_outcome straps.addresses start bus parts.now ≡ record { number = result.number; bus = result.bus; records = parts.now; back = [] } }
 {
     let n = parts.len();
@@ -19,8 +19,7 @@ pub extern "C" fn max6955_start(parts: &[Device], bus: Bus, straps: Straps) -> B
 }
 
 // A stop: from every bus state the bus is idle.
-#[unsafe(no_mangle)]
-pub extern "C" fn max6955_stop(parts: &[Device], bus: Bus, straps: Straps) -> BusAnswer
+pub fn max6955_stop(parts: &[Device], bus: Bus, straps: Straps) -> BusAnswer
     ensures { bus_outcome straps.addresses stop bus parts.now ≡ record { number = result.number; bus = result.bus; records = parts.now; back = [] } }
 {
     let n = parts.len();
@@ -29,13 +28,7 @@ pub extern "C" fn max6955_stop(parts: &[Device], bus: Bus, straps: Straps) -> Bu
 }
 
 // A byte given by the master: the slave byte, the command address or data.
-#[unsafe(no_mangle)]
-pub extern "C" fn max6955_write(
-    parts: &mut [Device],
-    bus: Bus,
-    straps: Straps,
-    byte: u8,
-) -> ByteAnswer
+pub fn max6955_write(parts: &mut [Device], bus: Bus, straps: Straps, byte: u8) -> ByteAnswer
     ensures { bus_outcome straps.addresses (put byte) bus parts.old ≡ record { number = result.number; bus = result.bus; records = parts.new; back = result.acknowledged ∷ result.«data» ∷ [] } }
 {
     let n = parts.len();
@@ -51,8 +44,7 @@ pub extern "C" fn max6955_write(
 }
 
 // A byte asked for by the master.
-#[unsafe(no_mangle)]
-pub extern "C" fn max6955_read(parts: &mut [Device], bus: Bus, straps: Straps) -> ByteAnswer
+pub fn max6955_read(parts: &mut [Device], bus: Bus, straps: Straps) -> ByteAnswer
     ensures { bus_outcome straps.addresses get bus parts.old ≡ record { number = result.number; bus = result.bus; records = parts.new; back = result.acknowledged ∷ result.«data» ∷ [] } }
 {
     let n = parts.len();

@@ -18,7 +18,7 @@ abbrev pub packed : ℕ → (ℕ → ℕ) → ℕ
 packed zero f = 0
 packed (suc n) f = f 0 + 256 * packed n (λ i. f (suc i))
 
--- a pin by its number in an answer (display: Pins `pinCode`), where the segment that its entry names is lit
+-- a pin by its number in an answer (display: Pins `pin_code`), where the segment that its entry names is lit
 abbrev pub lit_number : ℕ → ℕ
 lit_number n = if (ltb n 17) 2 (if (eqb n 17) 4 (if (eqb n 18) 1 0))
 

@@ -89,7 +89,7 @@ abbrev pub others : ℕ → List ℕ
 others d = others_of d (0 ∷ 1 ∷ 2 ∷ 3 ∷ 4 ∷ 5 ∷ 6 ∷ 7 ∷ 8 ∷ 9 ∷ 10 ∷ 11 ∷ 12 ∷ 13 ∷ 14 ∷ 15 ∷ 16 ∷ 17 ∷ 18 ∷ [])
 
 -- the table obeys the rule: pin d is the cathode, its partner isn't driven, the other 17 in rising order carry the display's list; `entries`
--- says the same entry by entry, by `ruleAt`. The lists by bits: bit 15 down to 0 of a glyph word are a1 to m, and a 14-segment digit skips bits 14
+-- says the same entry by entry, by `rule_at`. The lists by bits: bit 15 down to 0 of a glyph word are a1 to m, and a 14-segment digit skips bits 14
 -- and 10; of a pair the order of Table 4, and by name that of Table 10, D7 to D0 being dp a b c d e f g of either digit
 pub record WiringTable : Type 0 where
   pub cathodes : (k : Display) (d : ℕ) → d < 8 → entry_at k d d ≡ wire_entry cathode

@@ -1,5 +1,5 @@
 -- `blink::phase` meets its contract. Assumes nothing.
-use Rattle.ground.proofs.Names.{◌+◌, ◌%◌, arith, ◌≡◌, rules, tests}
+use Rattle.ground.proofs.Names.{◌+◌, ◌%◌, arith, ◌≡◌, tests}
 use Rattle.blink.proofs.phase.Goals as goal
 
 -- a count brought below a cycle is in the same half of the fast period

@@ -1,5 +1,4 @@
 -- `blink::shown` meets its contract. Assumes nothing.
-use Rattle.ground.proofs.Names.{rules}
 use Rattle.blink.proofs.shown.Goals as goal
 
 pub returns-then-blinking : goal.returns-then-blinking

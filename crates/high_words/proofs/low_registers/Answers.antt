@@ -1,5 +1,4 @@
 -- `high_words::low_registers` meets its contract. Assumes nothing.
-use Rattle.ground.proofs.Names.{rules}
 use Rattle.high_words.specs.LowWords.{low_registers}
 use Rattle.high_words.proofs.low_registers.Goals as goal
 

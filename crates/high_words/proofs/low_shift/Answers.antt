@@ -1,5 +1,5 @@
 -- `high_words::low_shift` meets its contract. Assumes nothing.
-use Rattle.ground.proofs.Names.{rules, tests}
+use Rattle.ground.proofs.Names.{tests}
 use Rattle.high_words.specs.LowWords.{low_shift}
 use Rattle.high_words.proofs.low_shift.Goals as goal
 

@@ -1,5 +1,5 @@
 -- `keys::split` meets its contract. Assumes nothing.
-use Rattle.ground.proofs.Names.{div-one, rules}
+use Rattle.ground.proofs.Names.{div-one}
 use Rattle.keys.specs.PackedKeys.{byte_at}
 use Rattle.keys.proofs.split.Goals as goal
 

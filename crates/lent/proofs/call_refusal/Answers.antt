@@ -1,5 +1,5 @@
 -- `lent::call_refusal` meets its contract. Assumes nothing.
-use Rattle.ground.proofs.Names.{ℕ, ◌≡◌, ◌<◌, ◌≤◌, arith, sym, ap, subst, ◌∙◌, length, take}
+use Rattle.ground.proofs.Names.{ℕ, ◌≡◌, ◌<◌, arith, sym, subst, ◌∙◌, length}
 use Rattle.pass.proofs.WidthLaws.{widths_start, all_start}
 use Rattle.pass.proofs.FoundLaws.{pass_below}
 use Rattle.lent.proofs.Passed.{widths_turn, old_number}

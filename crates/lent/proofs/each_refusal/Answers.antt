@@ -1,5 +1,5 @@
 -- `lent::each_refusal` meets its contract. Assumes nothing.
-use Rattle.ground.proofs.Names.{◌≡◌, ◌-◌, arith, sym, ap, subst, ◌∙◌, length, get_or}
+use Rattle.ground.proofs.Names.{◌≡◌, ◌-◌, arith, sym, ap, ◌∙◌, length}
 use Rattle.device.specs.PowerUp.{power_up}
 use Rattle.device.specs.declared.Device.{Device}
 use Rattle.pass.specs.Found.{by_arguments, records_refusal}

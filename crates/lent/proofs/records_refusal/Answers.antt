@@ -1,5 +1,5 @@
 -- `lent::records_refusal` meets its contract. Assumes nothing.
-use Rattle.ground.proofs.Names.{◌≡◌, ◌≤◌, ◌-◌, arith, refl, sym, ◌∙◌, length, take}
+use Rattle.ground.proofs.Names.{◌≡◌, ◌-◌, arith, refl, ◌∙◌, length}
 use Rattle.pass.proofs.WidthLaws.{all_start}
 use Rattle.pass.proofs.SeenLaws.{seen_start}
 use Rattle.pass.proofs.FoundLaws.{records_found}

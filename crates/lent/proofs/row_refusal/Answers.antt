@@ -1,5 +1,5 @@
 -- `lent::row_refusal` meets its contract. Assumes nothing.
-use Rattle.ground.proofs.Names.{◌≡◌, ap, ◌∙◌}
+use Rattle.ground.proofs.Names.{ap, ◌∙◌}
 use Rattle.pass.specs.Found.{call_refusal}
 use Rattle.pass.proofs.FoundLaws.{row_found}
 use Rattle.lent.proofs.row_refusal.Goals as goal

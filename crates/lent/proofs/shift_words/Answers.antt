@@ -1,12 +1,10 @@
 -- `lent::shift_words` meets its contract. Assumes nothing.
-use Rattle.ground.proofs.Names.{ℕ, ◌≡◌, ◌<◌, ◌≤◌, arith, sym, ap, subst, ◌∙◌, length, take, set}
-use Rattle.device.specs.PowerUp.{power_up}
-use Rattle.device.specs.declared.Device.{Device}
+use Rattle.ground.proofs.Names.{ℕ, ◌≡◌, ◌<◌, arith, sym, ap, subst, ◌∙◌, length}
 use Rattle.pass.specs.Found.{to_pass_in}
 use Rattle.pass.specs.OneByOne.{words_to}
 use Rattle.pass.proofs.WidthLaws.{widths_start, all_start}
-use Rattle.pass.proofs.StepLaws.{words_start, words_more}
-use Rattle.pass.proofs.FoundLaws.{pass_in_below, access_old, access_mixed}
+use Rattle.pass.proofs.StepLaws.{words_start}
+use Rattle.pass.proofs.FoundLaws.{pass_in_below}
 use Rattle.lent.proofs.Passed.{widths_turn, words_turn, old_access, mixed_access}
 use Rattle.lent.proofs.shift_words.Goals as goal
 

@@ -1,6 +1,6 @@
 -- `lent::shift_words` meets its contract. The invariant: what the records so far tell, that their bytes are bytes, and their shift words in front of the words
 -- lent. Assumes nothing.
-use Rattle.ground.proofs.Names.{◌≡◌, ◌≤◌, ◌-◌, length, take}
+use Rattle.ground.proofs.Names.{◌≡◌, ◌≤◌, ◌-◌, take}
 use Rattle.pass.specs.Widths.{no_widths, widths_of, AllBytes}
 use Rattle.pass.specs.OneByOne.{words_to}
 use Rattle.lent.proofs.shift_words.Given as goal

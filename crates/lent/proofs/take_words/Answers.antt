@@ -1,7 +1,7 @@
 -- `lent::take_words` meets its contract. Assumes nothing.
-use Rattle.ground.proofs.Names.{ℕ, ◌≡◌, ◌<◌, ◌≤◌, arith, sym, ap, subst, ◌∙◌, length, take, ◌+◌}
+use Rattle.ground.proofs.Names.{ℕ, ◌<◌, ◌≤◌, arith, sym, subst, ◌∙◌, length, ◌+◌}
 use Rattle.pass.proofs.StepLaws.{taken_start}
-use Rattle.pass.proofs.FoundLaws.{in_room_below, in_room_le}
+use Rattle.pass.proofs.FoundLaws.{in_room_below}
 use Rattle.lent.proofs.Taken.{high, ports_far, ports_near, low, taken_turn}
 use Rattle.lent.proofs.take_words.Goals as goal
 use Rattle.lent.proofs.take_words.Goals.{then-in_place, else-in_place+then-is_ports+then-is_high, else-in_place+then-is_ports+else-is_high, else-in_place+else-is_ports}

@@ -1,5 +1,5 @@
 -- `lent::take_words` meets its contract. The invariant: the records so far took their words, the others are as they were. Assumes nothing.
-use Rattle.ground.proofs.Names.{◌≡◌, ◌≤◌, ◌-◌, length, take}
+use Rattle.ground.proofs.Names.{◌≡◌, ◌≤◌, ◌-◌}
 use Rattle.pass.specs.OneByOne.{taken_to}
 use Rattle.lent.proofs.take_words.Given as goal
 

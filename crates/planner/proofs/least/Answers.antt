@@ -1,5 +1,5 @@
 -- `planner::least` meets its contract. Assumes nothing.
-use Rattle.ground.proofs.Names.{arith, rules}
+use Rattle.ground.proofs.Names.{arith}
 use Rattle.digits.specs.Digits.{cleared}
 use Rattle.plans.specs.Lists.{wanted_at}
 use Rattle.plans.proofs.Potential.{needs_le}

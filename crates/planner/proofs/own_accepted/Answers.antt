@@ -1,7 +1,5 @@
 -- `planner::own_accepted` meets its contract. The invariant: after a words, the rest decides by the planes so far. Assumes nothing.
-use Rattle.ground.proofs.Names.{ℕ, ◌+◌, ◌*◌, ◌-◌, ◌≤◌, ◌<◌, add-one, suc-mul, div-le_self, arith, ◌≡◌, refl, sym, ◌∙◌, length, drop, rules, not-true, not-false}
-use Rattle.plans.specs.Lists.{wanted_at, words_at}
-use Rattle.planner.specs.OneDriver.{from_planes}
+use Rattle.ground.proofs.Names.{◌-◌, add-one, suc-mul, div-le_self, arith, refl, sym, ◌∙◌}
 use Rattle.planner.proofs.CheckLaws.{same_plain, word_taken, word_refused, words_done, place_in}
 use Rattle.planner.proofs.own_accepted.Goals as goal
 

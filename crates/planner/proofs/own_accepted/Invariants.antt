@@ -1,8 +1,7 @@
 -- `planner::own_accepted` meets its contract. The invariant: after a words, the rest decides by the planes so far. Assumes nothing.
-use Rattle.ground.proofs.Names.{ℕ, ◌+◌, ◌*◌, ◌-◌, ◌≤◌, ◌<◌, add-one, suc-mul, div-le_self, arith, ◌≡◌, refl, sym, ◌∙◌, length, drop, rules, not-true, not-false}
+use Rattle.ground.proofs.Names.{ℕ, ◌+◌, ◌*◌, ◌-◌, ◌≤◌, ◌<◌, ◌≡◌, length, drop}
 use Rattle.plans.specs.Lists.{wanted_at, words_at}
 use Rattle.planner.specs.OneDriver.{from_planes}
-use Rattle.planner.proofs.CheckLaws.{same_plain, word_taken, word_refused, words_done, place_in}
 use Rattle.planner.proofs.own_accepted.Given as goal
 
 abbrev pub invariant-loop-a : goal.invariant-loop-a

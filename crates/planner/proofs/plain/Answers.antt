@@ -1,6 +1,6 @@
 -- `planner::plain` meets its contract. The invariant: the words of the digits below k. Assumes nothing.
-use Rattle.ground.proofs.Names.{◌≤◌, ◌-◌, add-one, arith, ◌≡◌, refl, ◌∙◌, rules}
-use Rattle.plans.specs.Least.{total, need_at}
+use Rattle.ground.proofs.Names.{◌≤◌, ◌-◌, add-one, arith, ◌≡◌, refl, ◌∙◌}
+use Rattle.plans.specs.Least.{total}
 use Rattle.plans.specs.Lists.{wanted_at}
 use Rattle.plans.proofs.Potential.{need_le, needs_le}
 use Rattle.planner.proofs.WantedLaws.{wanted_p0, wanted_p1}

@@ -1,5 +1,5 @@
 -- `planner::write_digits` meets its contract. The invariant: the words of the digits below k are put. Assumes nothing.
-use Rattle.ground.proofs.Names.{ℕ, ◌+◌, ◌*◌, ◌<◌, ◌≤◌, ◌-◌, add-one, add-mul, arith, List, ◌≡◌, refl, length, get_or, rules}
+use Rattle.ground.proofs.Names.{ℕ, ◌+◌, ◌*◌, ◌<◌, ◌≤◌, ◌-◌, add-one, add-mul, arith, List, ◌≡◌, refl, length, get_or}
 use Rattle.digits.specs.declared.Planes.{Planes}
 use Rattle.plans.specs.Lists.{wanted_at}
 use Rattle.plans.specs.Least.{total, need, need_at, plain}

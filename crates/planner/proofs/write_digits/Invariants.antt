@@ -1,13 +1,10 @@
 -- `planner::write_digits` meets its contract. The invariant: the words of the digits below k are put. Assumes nothing.
-use Rattle.ground.proofs.Names.{ℕ, ◌+◌, ◌*◌, ◌<◌, ◌≤◌, ◌-◌, add-one, add-mul, arith, List, ◌≡◌, refl, length, get_or, rules}
+use Rattle.ground.proofs.Names.{◌+◌, ◌*◌, ◌≤◌, ◌-◌, ◌≡◌}
 use Rattle.digits.specs.declared.Planes.{Planes}
 use Rattle.plans.specs.Lists.{wanted_at}
-use Rattle.plans.specs.Least.{total, need, need_at, plain}
-use Rattle.plans.specs.Plan.{digit_words, steps}
-use Rattle.plans.proofs.Planner.{length_steps}
+use Rattle.plans.specs.Least.{total, need_at}
+use Rattle.plans.specs.Plan.{steps}
 use Rattle.planner.specs.OneDriver.{put}
-use Rattle.planner.proofs.Puts.{length_put, put_append, needs_fit}
-use Rattle.planner.proofs.WantedLaws.{wanted_p0, wanted_p1}
 use Rattle.planner.proofs.write_digits.Given as goal
 
 abbrev pub invariant-loop-k : goal.invariant-loop-k

@@ -1,5 +1,5 @@
 -- `planner::write_driver` meets its contract. Assumes nothing.
-use Rattle.ground.proofs.Names.{sym, ◌∙◌, rules}
+use Rattle.ground.proofs.Names.{sym, ◌∙◌}
 use Rattle.planner.proofs.Room.{in_room_lem}
 use Rattle.planner.proofs.write_driver.Goals as goal
 

@@ -1,11 +1,9 @@
 -- `planner::write_plan` meets its contract, by the laws of a list with a plan's words. Assumes nothing.
-use Rattle.ground.proofs.Names.{suc, ◌+◌, ◌-◌, ◌≤◌, suc-mul, mul-le-mul_right, arith, ◌≡◌, ap, ◌∙◌, length, length-set, rules}
+use Rattle.ground.proofs.Names.{suc, ◌+◌, ◌-◌, ◌≤◌, suc-mul, mul-le-mul_right, arith, ◌≡◌, length-set}
 use Rattle.digits.specs.Digits.{cleared}
-use Rattle.digits.specs.declared.Planes.{Planes}
 use Rattle.plans.specs.Least.{plain}
 use Rattle.plans.specs.Lists.{wanted_at}
 use Rattle.plans.proofs.Potential.{needs_le}
-use Rattle.planner.proofs.Puts.{length_put}
 use Rattle.planner.proofs.Room.{kept_many, anew_many, kept_fits, anew_fits}
 use Rattle.planner.proofs.write_plan.Goals as goal
 

@@ -1,5 +1,5 @@
 -- `planner::write_waits` meets its contract. The invariant: what is left of the no-ops is to be put from here on. Assumes nothing.
-use Rattle.ground.proofs.Names.{suc, ◌+◌, ◌*◌, ◌≤◌, ◌<◌, ◌-◌, suc-mul, sub-zero, arith, ◌≡◌, refl, length, replicate, length-set, rules}
+use Rattle.ground.proofs.Names.{◌+◌, ◌*◌, ◌≤◌, ◌<◌, ◌-◌, ◌≡◌, length, replicate}
 use Rattle.planner.specs.OneDriver.{put}
 use Rattle.planner.proofs.write_waits.Given as goal
 

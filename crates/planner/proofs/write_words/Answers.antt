@@ -1,5 +1,5 @@
 -- `planner::write_words` meets its contract: the no-ops have room after the digits' words. Assumes nothing.
-use Rattle.ground.proofs.Names.{add-mul, arith, rules}
+use Rattle.ground.proofs.Names.{add-mul, arith}
 use Rattle.plans.proofs.Planner.{length_steps}
 use Rattle.planner.proofs.Puts.{length_put, put_append}
 use Rattle.planner.proofs.write_words.Goals as goal

@@ -1,5 +1,5 @@
 -- `port_high_words::new_transition` meets its contract. Assumes nothing.
-use Rattle.ground.proofs.Names.{sym, ap, ◌∙◌, ne_eqb, tests, rules}
+use Rattle.ground.proofs.Names.{sym, ap, tests}
 use Rattle.port_registers.specs.PortRecord.{with_stored}
 use Rattle.port_registers.specs.declared.PortRegisters.{PortRegisters}
 use Rattle.port_registers.proofs.Detected.{while_off}

@@ -1,5 +1,5 @@
 -- `port_registers::directions` meets its contract. Assumes nothing.
-use Rattle.ground.proofs.Names.{arith, rules}
+use Rattle.ground.proofs.Names.{arith}
 use Rattle.port_registers.specs.Levels.{directions}
 use Rattle.port_registers.proofs.LevelLaws.{upper_zero, directions_small}
 use Rattle.port_registers.proofs.directions.Goals as goal

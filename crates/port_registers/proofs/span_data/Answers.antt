@@ -1,5 +1,5 @@
 -- `port_registers::span_data` meets its contract. Assumes nothing.
-use Rattle.ground.proofs.Names.{◌-◌, arith, tests, rules}
+use Rattle.ground.proofs.Names.{◌-◌, arith}
 use Rattle.port_registers.proofs.SpanLaws.{within_by, ones_pos, read_shifts}
 use Rattle.port_registers.proofs.span_data.Goals as goal
 

@@ -1,5 +1,5 @@
 -- `port_registers::span_written` meets its contract. Assumes nothing.
-use Rattle.ground.proofs.Names.{◌-◌, arith, tests, rules}
+use Rattle.ground.proofs.Names.{◌-◌, arith, rules}
 use Rattle.port_registers.proofs.SpanLaws.{within_by, ones_pos, by_shifts}
 use Rattle.port_registers.proofs.span_written.Goals as goal
 

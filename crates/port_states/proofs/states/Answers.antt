@@ -1,6 +1,6 @@
 -- `port_states::states` meets its contract. The invariant: k numbers are written, and the rest is as it was. Assumes nothing.
-use Rattle.ground.proofs.Names.{◌+◌, ◌-◌, arith, append-nil, ap, ◌∙◌, rules, Filled, filled_start, filled_more, filled_all}
-use Rattle.port_states.specs.PortStates.{state_of, port_number, states_of}
+use Rattle.ground.proofs.Names.{◌+◌, ◌-◌, arith, append-nil, ap, ◌∙◌, filled_start, filled_more, filled_all}
+use Rattle.port_states.specs.PortStates.{port_number, states_of}
 use Rattle.port_states.proofs.Driven.{numbers}
 use Rattle.port_states.proofs.states.Goals as goal
 

@@ -1,15 +1,7 @@
 -- `script::run` meets its contract. Assumes nothing.
-use Rattle.ground.proofs.Names.{arith, lt-ltb, le-ltb, rules}
-use Rattle.script.proofs.StartLaws.{too_little, ran, printed_long, printed_items}
+use Rattle.ground.proofs.Names.{arith, lt-ltb}
+use Rattle.script.proofs.StartLaws.{ran, printed_long, printed_items}
 use Rattle.script.proofs.run.Goals as goal
-
-pub returns-then-out-room_for : goal.returns-then-out-room_for
-returns-then-out-room_for c = too_little c.args.script.now c.args.out.now (rw c.room_for.ensures at c.if-out-room_for.true)
-
-pub refusal_line-requires : goal.refusal_line-requires
-refusal_line-requires c =
-    let r = c.room_for.ensures in
-    omega (arith, rw (lt-ltb _ _ c.if-script-gt-LONGEST.true) at r, c.if-out-room_for.false)
 
 pub returns-then-script-gt-LONGEST : goal.returns-then-script-gt-LONGEST
 returns-then-script-gt-LONGEST c =
@@ -18,11 +10,6 @@ returns-then-script-gt-LONGEST c =
     let v = c.refusal_line.ensures in
     let long = c.if-script-gt-LONGEST.true in
     ran a.script.now a.out.now _ _ (rw (← r) c.if-out-room_for.false) (rw (printed_long a.script.now long) v) (omega (arith, v.place, rw (lt-ltb _ _ long) at r, c.if-out-room_for.false))
-
-pub print-requires : goal.print-requires
-print-requires c =
-    let r = c.room_for.ensures in
-    omega (arith, rw (le-ltb _ _ c.if-script-gt-LONGEST.false) at r, c.if-out-room_for.false)
 
 pub returns : goal.returns
 returns c =

@@ -1,60 +1,21 @@
 -- `script::run_records` meets its contract. Assumes nothing.
-use Rattle.ground.proofs.Names.{◌-◌, arith, ◌∙◌, length, rules}
-use Rattle.script.proofs.RoomLaws.{written_length}
-use Rattle.script.proofs.LoopLaws.{Running, run_starts, found, part_fits, stops_malformed, stops_chain, goes_on, run_ends}
+use Rattle.ground.proofs.Names.{arith}
+use Rattle.script.proofs.LoopLaws.{run_starts, found, part_fits, stops_malformed, stops_chain, goes_on, run_ends}
 use Rattle.script.proofs.run_records.Goals as goal
-use Rattle.script.proofs.run_records.Tie as tie
 
 pub loop-from-init : goal.loop-from-init
 loop-from-init c =
     let p = c.requires in
     run_starts _ _ _ _ _ _ p.1 p.4 p.0 c.new-row.ensures
 
-pub slice_bounds-rest-count : goal.slice_bounds-rest-count
-slice_bounds-rest-count c = omega (arith, c.loop-from-test.true)
-
-pub refusal_line-requires : goal.refusal_line-requires
-refusal_line-requires c =
-    let l = c.loop-from in
-    omega (arith, l.invariant.space, l.invariant.same_room, c.loop-from-test.true)
-
-same_length : tie.Need-same-length invariant-loop decreases-loop
-same_length c = written_length _ _ _ _ _ c.before.before.refusal-line.ensures ∙ c.before.before.before.before.before.before.before.before.loop.invariant.same_room
-
 pub returns-then-size-eq0 : goal.returns-then-size-eq0
 returns-then-size-eq0 c = stops_malformed c.loop-from.invariant c.loop-from-test.true c.record_size-size.ensures c.if-size-eq0.true c.refusal_line.ensures
-
-pub refusal_line-requires-then-kind-eq1 : goal.refusal_line-requires-then-kind-eq1
-refusal_line-requires-then-kind-eq1 c =
-    let l = c.loop-from in
-    omega (arith, l.invariant.space, l.invariant.same_room, c.loop-from-test.true)
-
-same-length-2 : tie.Need-same-length-2 invariant-loop decreases-loop
-same-length-2 c = written_length _ _ _ _ _ c.before.before.refusal-line2.ensures ∙ c.before.before.before.before.before.before.before.before.before.before.loop.invariant.same_room
 
 pub returns-then-kind-eq1 : goal.returns-then-kind-eq1
 returns-then-kind-eq1 c =
     let a = c.args in
     let l = c.loop-from in
     stops_chain l.invariant c.loop-from-test.true (found a.script.now l.from _ c.record_size-size.ensures c.if-size-eq0.false) c.byte-kind.ensures c.if-kind-eq1.true c.refusal_line-then-kind-eq1.ensures
-
-pub slice_bounds-obeyed-count : goal.slice_bounds-obeyed-count
-slice_bounds-obeyed-count c =
-    let a = c.args in
-    let l = c.loop-from in
-    (found a.script.now l.from _ c.record_size-size.ensures c.if-size-eq0.false).five
-
-pub slice_bounds-obeyed-start : goal.slice_bounds-obeyed-start
-slice_bounds-obeyed-start c =
-    let a = c.args in
-    let l = c.loop-from in
-    let f = (found a.script.now l.from _ c.record_size-size.ensures c.if-size-eq0.false).five in search rules
-
-pub slice_bounds-obeyed-end : goal.slice_bounds-obeyed-end
-slice_bounds-obeyed-end c =
-    let a = c.args in
-    let l = c.loop-from in
-    let f = (found a.script.now l.from _ c.record_size-size.ensures c.if-size-eq0.false).rest_whole in search rules
 
 pub obeyed-p-requires : goal.obeyed-p-requires
 obeyed-p-requires c =
@@ -63,26 +24,11 @@ obeyed-p-requires c =
     let f = found a.script.now l.from _ c.record_size-size.ensures c.if-size-eq0.false in
     (part_fits f _ c.byte-kind.ensures, c.if-kind-eq1.false, c.requires.3, omega (arith, f.part_length, f.whole, l.invariant.space, l.invariant.same_room))
 
-pub overflow_add-from : goal.overflow_add-from
-overflow_add-from c =
-    let a = c.args in
-    let l = c.loop-from in
-    let f = (found a.script.now l.from _ c.record_size-size.ensures c.if-size-eq0.false).whole in search rules
-
-pub loop-from-smaller : goal.loop-from-smaller
-loop-from-smaller c =
-    let a = c.args in
-    let l = c.loop-from in
-    let f = found a.script.now l.from _ c.record_size-size.ensures c.if-size-eq0.false in omega (arith, f.whole, f.five)
-
 pub loop-from-preserved : goal.loop-from-preserved
 loop-from-preserved c =
     let a = c.args in
     let l = c.loop-from in
     goes_on l.invariant c.loop-from-test.true (found a.script.now l.from _ c.record_size-size.ensures c.if-size-eq0.false) c.byte-kind.ensures c.if-kind-eq1.false c.obeyed-p.ensures
-
-same-length-3 : tie.Need-same-length-3 invariant-loop decreases-loop
-same-length-3 c = c.before.loop.invariant.same_room
 
 pub returns : goal.returns
 returns c = run_ends c.loop-from.invariant (omega arith)

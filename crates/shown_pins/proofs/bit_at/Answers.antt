@@ -1,5 +1,5 @@
 -- `shown_pins::bit_at` meets its contract. Assumes nothing.
-use Rattle.ground.proofs.Names.{ℕ, ◌/◌, ◌^◌, ◌<◌, ◌≤◌, arith, div-eq_of_lt, pow_mono, false, ◌≡◌, bit, sym, rules}
+use Rattle.ground.proofs.Names.{ℕ, ◌/◌, ◌^◌, ◌<◌, ◌≤◌, arith, div-eq_of_lt, pow_mono, false, ◌≡◌, bit, sym}
 use Rattle.shown_pins.proofs.bit_at.Goals as goal
 
 -- 32 bits have no bit 32

@@ -1,5 +1,5 @@
 -- `shown_pins::display_by` meets its contract. Assumes nothing.
-use Rattle.ground.proofs.Names.{sym, rules}
+use Rattle.ground.proofs.Names.{sym}
 use Rattle.shown_pins.proofs.display_by.Goals as goal
 
 pub returns-then-bit_at : goal.returns-then-bit_at

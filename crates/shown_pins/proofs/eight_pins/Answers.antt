@@ -1,6 +1,5 @@
 -- `shown_pins::eight_pins` meets its contract. Assumes nothing.
 use Rattle.shown_pins.specs.PackedPins.{eight_pins}
-use Rattle.ground.proofs.Names.{rules}
 use Rattle.shown_pins.proofs.eight_pins.Goals as goal
 
 pub returns : goal.returns

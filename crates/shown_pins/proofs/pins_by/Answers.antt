@@ -1,5 +1,4 @@
 -- `shown_pins::pins_by` meets its contract. Assumes nothing.
-use Rattle.ground.proofs.Names.{rules}
 use Rattle.shown_pins.proofs.pins_by.Goals as goal
 
 pub returns : goal.returns

@@ -1,7 +1,6 @@
 -- `shown_pins::pins_of` meets its contract. The invariant: p pins are written, and the rest is as it was. Assumes nothing.
-use Rattle.ground.proofs.Names.{◌-◌, ◌%◌, arith, append-nil, ◌∙◌, rules, Filled, filled_start, filled_more, filled_all}
+use Rattle.ground.proofs.Names.{◌-◌, arith, append-nil, ◌∙◌, filled_start, filled_more, filled_all}
 use Rattle.wiring.specs.PackedRows.{byte_of}
-use Rattle.shown_pins.specs.PackedPins.{word_at}
 use Rattle.shown_pins.proofs.pins_of.Goals as goal
 
 pub loop-p-preserved : goal.loop-p-preserved

@@ -1,5 +1,5 @@
 -- `shown_pins::pins_shown` meets its contract. Assumes nothing.
-use Rattle.ground.proofs.Names.{sym, ◌∙◌, arith, tabulate, rules}
+use Rattle.ground.proofs.Names.{sym, ◌∙◌, arith, tabulate}
 use Rattle.shown_pins.proofs.PinsLaws.{pins_dark, pins_lit}
 use Rattle.shown_pins.proofs.pins_shown.Goals as goal
 

@@ -1,5 +1,5 @@
 -- `shown_pins::segments` meets its contract. Assumes nothing.
-use Rattle.ground.proofs.Names.{tabulate, ne_eqb, sym, ◌∙◌, rules}
+use Rattle.ground.proofs.Names.{tabulate, ne_eqb, sym, ◌∙◌}
 use Rattle.refusals.proofs.RefusalLaws.{segments_served}
 use Rattle.shown_pins.proofs.segments.Goals as goal
 

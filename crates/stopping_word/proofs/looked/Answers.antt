@@ -1,5 +1,5 @@
 -- `stopping_word::looked` meets its contract: the place that the masks find is the stopping place, and it decides the byte. Assumes nothing.
-use Rattle.ground.proofs.Names.{◌≤◌, arith, ◌≡◌, sym, ◌∙◌, length, rules}
+use Rattle.ground.proofs.Names.{◌≤◌, arith, ◌≡◌, sym, ◌∙◌, length}
 use Rattle.look_back.specs.LookBack.{plane_numbered}
 use Rattle.stopping_word.specs.Masks.{stops_under}
 use Rattle.look_back.proofs.PlaceLaws.{place_le}

@@ -1,6 +1,6 @@
 -- `stopping_word::stopping_place` meets its contract. The invariant: no word after the first k stops, so the place is that of these. A turn reads the
 -- last of them, and the one before it where the last doesn't stop: none before the stopping place. Assumes nothing.
-use Rattle.ground.proofs.Names.{◌-◌, ◌≤◌, arith, ◌≡◌, sym, ap, ◌∙◌, length, take, take-length, rules}
+use Rattle.ground.proofs.Names.{◌-◌, arith, sym, ap, ◌∙◌, take-length}
 use Rattle.look_back.specs.Stops.{last_place}
 use Rattle.stopping_word.specs.Masks.{stops_under}
 use Rattle.look_back.proofs.PlaceLaws.{stops_at, goes_on, no_words}

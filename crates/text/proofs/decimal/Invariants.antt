@@ -1,7 +1,5 @@
 -- `text::decimal` meets its contract. The invariant: the digits from a place on stand, and those of what is left are to come. Assumes nothing.
-use Rattle.ground.proofs.Names.{◌-◌, ◌%◌, ◌+◌, ◌≤◌, arith, ◌≡◌, refl, ◌∙◌, length, take, drop, set, length-drop, length-set, take_all, rules}
-use Rattle.text.specs.Text.{decimal}
-use Rattle.text.proofs.Digits.{Digits, digits_start, some_left, digits_more, digits_end}
+use Rattle.text.proofs.Digits.{Digits}
 use Rattle.text.proofs.decimal.Given as goal
 
 abbrev pub invariant-loop-left : goal.invariant-loop-left

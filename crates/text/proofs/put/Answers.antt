@@ -1,7 +1,7 @@
 -- `text::put` meets its contract. Assumes nothing.
-use Rattle.ground.proofs.Names.{◌-◌, arith, [], ◌∷◌, refl, length, rules}
+use Rattle.ground.proofs.Names.{arith, refl}
 use Rattle.text.proofs.Room.{put_there, left_out}
-use Rattle.text.proofs.Texts.{Texts, texts_start, texts_more, texts_all, each_self}
+use Rattle.text.proofs.Texts.{texts_start, texts_more, texts_all, each_self}
 use Rattle.text.proofs.put.Goals as goal
 
 pub returns-then-out-at : goal.returns-then-out-at

@@ -1,7 +1,6 @@
 -- `text::put` meets its contract. Assumes nothing.
-use Rattle.ground.proofs.Names.{◌-◌, arith, [], ◌∷◌, refl, length, rules}
-use Rattle.text.proofs.Room.{put_there, left_out}
-use Rattle.text.proofs.Texts.{Texts, texts_start, texts_more, texts_all, each_self}
+use Rattle.ground.proofs.Names.{◌-◌, [], ◌∷◌, length}
+use Rattle.text.proofs.Texts.{Texts}
 use Rattle.text.proofs.put.Given as goal
 
 abbrev pub invariant-loop-i : goal.invariant-loop-i

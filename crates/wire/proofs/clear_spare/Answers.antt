@@ -1,5 +1,5 @@
 -- `wire::clear_spare` meets its contract, by the laws of the spare bits. Assumes nothing.
-use Rattle.ground.proofs.Names.{sym, arith, rules}
+use Rattle.ground.proofs.Names.{sym, arith}
 use Rattle.wire.proofs.ByteLaws.{none_spare, last_cleared}
 use Rattle.wire.proofs.clear_spare.Goals as goal
 

@@ -1,5 +1,5 @@
 -- `wire::copy_bytes` meets its contract. The invariant: k bytes are copied, and the rest is as it was. Assumes nothing.
-use Rattle.ground.proofs.Names.{◌-◌, ◌≤◌, add-one, arith, ◌≡◌, refl, ◌∙◌, length, length-set, paste, paste-zero, paste-suc}
+use Rattle.ground.proofs.Names.{◌-◌, add-one, arith, ◌≡◌, refl, ◌∙◌, length-set, paste-zero, paste-suc}
 use Rattle.wire.proofs.copy_bytes.Goals as goal
 
 pub loop-k-init : goal.loop-k-init

@@ -1,5 +1,5 @@
 -- `wire::shift` meets its contract. Assumes nothing.
-use Rattle.ground.proofs.Names.{ℕ, ◌≤◌, arith, List, true, ◌≡◌, refl, sym, ◌∙◌, length, eq-eqb, ne_eqb, le-leb, lt-leb, rules}
+use Rattle.ground.proofs.Names.{ℕ, ◌≤◌, arith, List, true, ◌≡◌, refl, sym, ◌∙◌, length, eq-eqb, ne_eqb, le-leb, lt-leb}
 use Rattle.refusals.specs.Refusals.{size_refusal}
 use Rattle.refusals.proofs.RefusalLaws.{size_served as served}
 use Rattle.wire.specs.Shift.{fits}

@@ -1,5 +1,5 @@
 -- `wire::shift_part` meets its contract, by the laws of an access by one line of bytes. Assumes nothing.
-use Rattle.ground.proofs.Names.{arith, ◌≡◌, sym, ◌∙◌, length, take, replicate, length-take-le, rules}
+use Rattle.ground.proofs.Names.{arith, ◌≡◌, sym, ◌∙◌, length, take, replicate, length-take-le}
 use Rattle.wire.proofs.LineLaws.{bytes_fit}
 use Rattle.wire.proofs.AccessLaws.{line_words, line_answer}
 use Rattle.wire.proofs.shift_part.Goals as goal

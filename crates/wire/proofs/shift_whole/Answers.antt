@@ -1,5 +1,5 @@
 -- `wire::shift_whole` meets its contract, by the laws of an access by whole words. Assumes nothing.
-use Rattle.ground.proofs.Names.{arith, ◌≡◌, sym, ◌∙◌, length, take, length-take-le, rules}
+use Rattle.ground.proofs.Names.{arith, ◌≡◌, sym, ◌∙◌, length, take, length-take-le}
 use Rattle.wire.proofs.LineLaws.{bytes_fit}
 use Rattle.wire.proofs.AccessLaws.{sent_words, whole_answer}
 use Rattle.wire.proofs.shift_whole.Goals as goal

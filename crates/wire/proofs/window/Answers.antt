@@ -1,5 +1,5 @@
--- `wire::window` meets its contract, by the law `window-bits`. Assumes nothing.
-use Rattle.ground.proofs.Names.{sym, rules}
+-- `wire::window` meets its contract, by the law `window_bits`. Assumes nothing.
+use Rattle.ground.proofs.Names.{sym}
 use Rattle.wire.proofs.ByteLaws.{window_bits}
 use Rattle.wire.proofs.window.Goals as goal
 

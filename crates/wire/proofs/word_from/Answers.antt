@@ -1,5 +1,5 @@
--- `wire::word_from` meets its contract, by the law `window-at`. Assumes nothing.
-use Rattle.ground.proofs.Names.{sym, ap, ◌∙◌, rules}
+-- `wire::word_from` meets its contract, by the law `window_at`. Assumes nothing.
+use Rattle.ground.proofs.Names.{sym, ap, ◌∙◌}
 use Rattle.wire.specs.Bits.{value}
 use Rattle.wire.proofs.ByteLaws.{window_at}
 use Rattle.wire.proofs.word_from.Goals as goal

@@ -1,6 +1,5 @@
 -- `wire::write_bytes` meets its contract. The invariant: the bytes of the last j words are written, and the rest is as it was. Assumes nothing.
-use Rattle.ground.proofs.Names.{◌-◌, ◌*◌, ◌≤◌, arith, ◌++◌, ◌≡◌, refl, ◌∙◌, length, drop, length-set, rules, lt-ltb, le-ltb}
-use Rattle.wire.specs.Line.{word_bytes}
+use Rattle.ground.proofs.Names.{◌-◌, ◌*◌, arith, ◌≡◌, refl, ◌∙◌, length, length-set, lt-ltb, le-ltb}
 use Rattle.wire.proofs.LineLaws.{bytes_none, bytes_more}
 use Rattle.wire.proofs.write_bytes.Goals as goal
 

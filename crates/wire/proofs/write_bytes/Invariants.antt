@@ -1,7 +1,6 @@
 -- `wire::write_bytes` meets its contract. The invariant: the bytes of the last j words are written, and the rest is as it was. Assumes nothing.
-use Rattle.ground.proofs.Names.{◌-◌, ◌*◌, ◌≤◌, arith, ◌++◌, ◌≡◌, refl, ◌∙◌, length, drop, length-set, rules, lt-ltb, le-ltb}
+use Rattle.ground.proofs.Names.{◌-◌, ◌*◌, ◌≤◌, ◌++◌, ◌≡◌, length, drop}
 use Rattle.wire.specs.Line.{word_bytes}
-use Rattle.wire.proofs.LineLaws.{bytes_none, bytes_more}
 use Rattle.wire.proofs.write_bytes.Given as goal
 
 abbrev pub invariant-loop-j : goal.invariant-loop-j

@@ -1,6 +1,6 @@
 -- `wire::write_words` meets its contract. The invariant: i words are written, and the rest is as it was. Assumes nothing.
-use Rattle.ground.proofs.Names.{◌-◌, arith, drop, drop-drop, Filled, filled_start, filled_more, filled_all}
-use Rattle.wire.specs.Bits.{unpack, word_at}
+use Rattle.ground.proofs.Names.{◌-◌, arith, drop-drop, filled_start, filled_more, filled_all}
+use Rattle.wire.specs.Bits.{word_at}
 use Rattle.wire.specs.Wire.{words}
 use Rattle.wire.proofs.write_words.Goals as goal
 

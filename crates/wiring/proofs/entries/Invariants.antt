@@ -1,5 +1,5 @@
 -- `wiring::entries` meets its contract. The invariant: p entries are copied, and the rest is as it was. Assumes nothing.
-use Rattle.ground.proofs.Names.{◌+◌, ◌-◌, arith, append-nil, refl, ◌∙◌, get_or, rules, Filled, filled_start, filled_more, filled_all}
+use Rattle.ground.proofs.Names.{◌+◌, ◌-◌, get_or, Filled}
 use Rattle.wiring.proofs.entries.Given as goal
 
 abbrev pub invariant-loop-p : goal.invariant-loop-p

@@ -1,5 +1,4 @@
 -- `wiring::first_pins` meets its contract. Assumes nothing.
-use Rattle.ground.proofs.Names.{rules}
 use Rattle.wiring.proofs.first_pins.Goals as goal
 
 pub returns : goal.returns

@@ -1,5 +1,4 @@
 -- `wiring::last_pins` meets its contract. Assumes nothing.
-use Rattle.ground.proofs.Names.{rules}
 use Rattle.wiring.proofs.last_pins.Goals as goal
 
 pub returns-in-Sixteen : goal.returns-in-Sixteen

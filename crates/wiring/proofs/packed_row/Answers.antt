@@ -1,5 +1,5 @@
 -- `wiring::packed_row` meets its contract. Assumes nothing.
-use Rattle.ground.proofs.Names.{arith, le-ltb, rules}
+use Rattle.ground.proofs.Names.{arith, le-ltb}
 use Rattle.wiring.proofs.Packing.{packed_row_lem}
 use Rattle.wiring.proofs.packed_row.Goals as goal
 

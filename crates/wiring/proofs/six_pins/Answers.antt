@@ -1,5 +1,4 @@
 -- `wiring::six_pins` meets its contract. Assumes nothing.
-use Rattle.ground.proofs.Names.{rules}
 use Rattle.wiring.proofs.six_pins.Goals as goal
 
 pub returns-in-Sixteen : goal.returns-in-Sixteen

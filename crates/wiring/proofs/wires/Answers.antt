@@ -1,5 +1,5 @@
 -- `wiring::wires` meets its contract. Assumes nothing.
-use Rattle.ground.proofs.Names.{◌∙◌, le-ltb, tabulate, rules}
+use Rattle.ground.proofs.Names.{◌∙◌, le-ltb, tabulate}
 use Rattle.wiring.proofs.Wired.{wired_row}
 use Rattle.wiring.proofs.wires.Goals as goal
 

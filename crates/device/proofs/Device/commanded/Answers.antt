@@ -1,6 +1,5 @@
 -- `device::Device::commanded` meets its contract. Assumes nothing.
 use Rattle.device.specs.TwoWire.{commanded}
-use Rattle.ground.proofs.Names.{rules}
 use Rattle.device.proofs.Device.commanded.Goals as goal
 
 pub returns : goal.returns

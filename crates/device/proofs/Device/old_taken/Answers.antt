@@ -1,6 +1,5 @@
 -- `device::Device::old_taken` meets its contract. Assumes nothing.
 use Rattle.device.specs.Taken.{taken}
-use Rattle.ground.proofs.Names.{rules}
 use Rattle.device.proofs.Device.old_taken.Goals as goal
 
 pub returns-in-Write : goal.returns-in-Write

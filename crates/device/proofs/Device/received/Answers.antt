@@ -1,6 +1,5 @@
 -- `device::Device::received` meets its contract. Assumes nothing.
 use Rattle.device.specs.TwoWire.{received}
-use Rattle.ground.proofs.Names.{rules}
 use Rattle.device.proofs.Device.received.Goals as goal
 
 pub returns : goal.returns

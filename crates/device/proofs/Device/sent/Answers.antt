@@ -1,6 +1,5 @@
 -- `device::Device::sent` meets its contract. Assumes nothing.
 use Rattle.device.specs.TwoWire.{sent}
-use Rattle.ground.proofs.Names.{rules}
 use Rattle.device.proofs.Device.sent.Goals as goal
 
 pub returns : goal.returns

@@ -1,6 +1,5 @@
 -- `device::Device::sent_data` meets its contract. Assumes nothing.
 use Rattle.device.specs.TwoWire.{sent_data}
-use Rattle.ground.proofs.Names.{rules}
 use Rattle.device.proofs.Device.sent_data.Goals as goal
 
 pub returns : goal.returns

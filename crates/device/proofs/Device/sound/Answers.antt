@@ -1,5 +1,5 @@
 -- `device::Device::sound` meets its contract. Assumes nothing.
-use Rattle.ground.proofs.Names.{rules, tests, eq-eqb, ne_eqb}
+use Rattle.ground.proofs.Names.{tests, eq-eqb, ne_eqb}
 use Rattle.device.specs.Families.{sound_record}
 use Rattle.device.proofs.Device.sound.Goals as goal
 

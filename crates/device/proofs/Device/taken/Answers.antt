@@ -1,5 +1,5 @@
 -- `device::Device::taken` meets its contract. Assumes nothing.
-use Rattle.ground.proofs.Names.{rules, tests}
+use Rattle.ground.proofs.Names.{tests}
 use Rattle.device.specs.Families.{takes}
 use Rattle.device.proofs.Device.taken.Goals as goal
 

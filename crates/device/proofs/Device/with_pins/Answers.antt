@@ -1,5 +1,5 @@
 -- `device::Device::with_pins` meets its contract. Assumes nothing.
-use Rattle.ground.proofs.Names.{rules, tests}
+use Rattle.ground.proofs.Names.{tests}
 use Rattle.device.specs.Families.{pinned}
 use Rattle.device.proofs.Device.with_pins.Goals as goal
 

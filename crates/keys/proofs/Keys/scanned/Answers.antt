@@ -17,9 +17,9 @@ pub returns : goal.returns
 returns c =
     let s = c.args.self in
     let registers : (j : ℕ) → j < 4 → Bytes (four s.a s.b s.c s.d j) =
-      let w = c.well_formed.0.1.1 in
-      at_places (λ j. Bytes (four s.a s.b s.c s.d j)) (bytes _ _ w.0) (bytes _ _ w.1.0) (bytes _ _ w.1.1.0) (bytes _ _ w.1.1.1.0) in
+    let w = c.well_formed.0.1.1 in
+    at_places (λ j. Bytes (four s.a s.b s.c s.d j)) (bytes _ _ w.0) (bytes _ _ w.1.0) (bytes _ _ w.1.1.0) (bytes _ _ w.1.1.1.0) in
     let closed : (j : ℕ) → j < 4 → four c.args.a c.args.b c.args.c c.args.d j < 256 =
-      at_places (λ j. four c.args.a c.args.b c.args.c c.args.d j < 256) (search rules) (search rules) (search rules) (search rules) in
+    at_places (λ j. four c.args.a c.args.b c.args.c c.args.d j < 256) (search rules) (search rules) (search rules) (search rules) in
     simp (c.unpacked.ensures, c.scanned-new.ensures, c.raised_or-interrupt.ensures, c.raises.ensures, c.configured.ensures, c.joined.ensures, c.packed-old.ensures)
     (scanned_packed_lem s c.args.ports c.args.a c.args.b c.args.c c.args.d registers closed)

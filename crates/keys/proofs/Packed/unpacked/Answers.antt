@@ -1,5 +1,4 @@
 -- `keys::Packed::unpacked` meets its contract. Assumes nothing.
-use Rattle.ground.proofs.Names.{rules}
 use Rattle.keys.proofs.Packed.unpacked.Goals as goal
 
 pub returns : goal.returns

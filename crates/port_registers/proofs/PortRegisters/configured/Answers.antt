@@ -1,5 +1,5 @@
 -- `port_registers::PortRegisters::configured` meets its contract. Assumes nothing.
-use Rattle.ground.proofs.Names.{tests, rules}
+use Rattle.ground.proofs.Names.{tests}
 use Rattle.port_registers.proofs.PortRegisters.configured.Goals as goal
 
 pub returns-then-v-eq1 : goal.returns-then-v-eq1

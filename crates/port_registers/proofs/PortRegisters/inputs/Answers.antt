@@ -1,5 +1,5 @@
 -- `port_registers::PortRegisters::inputs` meets its contract. Assumes nothing.
-use Rattle.ground.proofs.Names.{arith, tests, rules}
+use Rattle.ground.proofs.Names.{arith, tests}
 use Rattle.port_registers.proofs.PortRegisters.inputs.Goals as goal
 
 pub returns-then-self-eq1 : goal.returns-then-self-eq1

@@ -1,5 +1,4 @@
 -- `port_registers::PortRegisters::levels` meets its contract. Assumes nothing.
-use Rattle.ground.proofs.Names.{rules}
 use Rattle.port_registers.specs.Levels.{levels}
 use Rattle.port_registers.proofs.PortRegisters.levels.Goals as goal
 

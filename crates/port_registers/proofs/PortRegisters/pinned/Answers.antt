@@ -1,5 +1,4 @@
 -- `port_registers::PortRegisters::pinned` meets its contract. Assumes nothing.
-use Rattle.ground.proofs.Names.{rules}
 use Rattle.port_registers.specs.PortTaken.{pinned}
 use Rattle.port_registers.proofs.PortRegisters.pinned.Goals as goal
 

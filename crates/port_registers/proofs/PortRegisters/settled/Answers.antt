@@ -1,5 +1,5 @@
 -- `port_registers::PortRegisters::settled` meets its contract. Assumes nothing.
-use Rattle.ground.proofs.Names.{tests, rules}
+use Rattle.ground.proofs.Names.{tests}
 use Rattle.port_registers.specs.PortTaken.{settled}
 use Rattle.port_registers.proofs.PortRegisters.settled.Goals as goal
 

@@ -1,5 +1,4 @@
 -- `port_registers::PortRegisters::shift_word` meets its contract. Assumes nothing.
-use Rattle.ground.proofs.Names.{rules}
 use Rattle.port_registers.proofs.PortRegisters.shift_word.Goals as goal
 
 pub returns-in-Write : goal.returns-in-Write

@@ -1,5 +1,4 @@
 -- `port_registers::PortRegisters::taken` meets its contract. Assumes nothing.
-use Rattle.ground.proofs.Names.{rules}
 use Rattle.port_registers.specs.PortTaken.{taken}
 use Rattle.port_registers.proofs.PortRegisters.taken.Goals as goal
 

@@ -1,5 +1,4 @@
 -- `port_registers::PortRegisters::watched` meets its contract. Assumes nothing.
-use Rattle.ground.proofs.Names.{rules}
 use Rattle.port_registers.proofs.LevelLaws.{watched_parts}
 use Rattle.port_registers.proofs.PortRegisters.watched.Goals as goal
 

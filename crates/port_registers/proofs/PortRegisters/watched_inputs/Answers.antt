@@ -1,5 +1,5 @@
 -- `port_registers::PortRegisters::watched_inputs` meets its contract. Assumes nothing.
-use Rattle.ground.proofs.Names.{arith, eq-eqb, tests, rules}
+use Rattle.ground.proofs.Names.{arith, eq-eqb, tests}
 use Rattle.port_registers.proofs.LevelLaws.{directions_watched}
 use Rattle.port_registers.proofs.PortRegisters.watched_inputs.Goals as goal
 

@@ -1,5 +1,4 @@
 -- `port_registers::PortRegisters::written` meets its contract. Assumes nothing.
-use Rattle.ground.proofs.Names.{rules}
 use Rattle.port_registers.proofs.PortRegisters.written.Goals as goal
 
 pub returns-in-NoOp : goal.returns-in-NoOp

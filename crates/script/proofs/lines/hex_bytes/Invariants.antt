@@ -1,7 +1,7 @@
 -- `script::lines::hex_bytes` meets its contract. Assumes nothing.
-use Rattle.ground.proofs.Names.{◌-◌, towards_suc, arith, refl, length, length-set}
+use Rattle.ground.proofs.Names.{◌-◌, length}
 use Rattle.printed.specs.Lines.{hex_byte}
-use Rattle.script.proofs.RoomLaws.{Texts, texts_start, texts_more, texts_all}
+use Rattle.script.proofs.RoomLaws.{Texts}
 use Rattle.script.proofs.lines.hex_bytes.Given as goal
 
 abbrev pub invariant-loop-i : goal.invariant-loop-i

@@ -1,7 +1,7 @@
 -- `script::lines::letters` meets its contract. Assumes nothing.
-use Rattle.ground.proofs.Names.{◌-◌, arith, refl, rules}
+use Rattle.ground.proofs.Names.{◌-◌}
 use Rattle.printed.specs.Lines.{pin_text}
-use Rattle.script.proofs.RoomLaws.{Texts, texts_start, texts_more, texts_all}
+use Rattle.script.proofs.RoomLaws.{Texts}
 use Rattle.script.proofs.lines.letters.Given as goal
 
 abbrev pub invariant-loop-p : goal.invariant-loop-p

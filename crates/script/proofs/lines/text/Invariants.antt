@@ -1,6 +1,6 @@
 -- `script::lines::text` meets its contract. Assumes nothing.
-use Rattle.ground.proofs.Names.{◌-◌, arith, [], ◌∷◌, refl, length}
-use Rattle.script.proofs.RoomLaws.{Texts, texts_start, texts_more, texts_all, each_self}
+use Rattle.ground.proofs.Names.{◌-◌, [], ◌∷◌, length}
+use Rattle.script.proofs.RoomLaws.{Texts}
 use Rattle.script.proofs.lines.text.Given as goal
 
 abbrev pub invariant-loop-i : goal.invariant-loop-i

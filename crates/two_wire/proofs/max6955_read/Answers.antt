@@ -1,0 +1,27 @@
+-- `two_wire::max6955_read` meets its contract. Assumes nothing.
+use Rattle.ground.proofs.Names.{◌-◌, ◌<◌, length, sym, ◌∙◌, rules}
+use Rattle.transfers.proofs.BusLaws.{read_free_lem, read_open_lem}
+use Rattle.shapes.proofs.Bytes.{opened}
+use Rattle.two_wire.proofs.max6955_read.Goals as goal
+
+pub returns-then-part-eq0 : goal.returns-then-part-eq0
+returns-then-part-eq0 c =
+    let p = rw c.row_refusal-early.ensures at c.part_open-part.ensures in
+    rw (c.read_free.ensures, c.row_refusal-early.ensures) (read_free_lem c.args.parts.now c.args.bus c.args.straps.addresses (sym p ∙ c.if-part-eq0.true))
+
+pub slice_copy_out-old : goal.slice_copy_out-old
+slice_copy_out-old c = (opened c.args.parts.now c.args.bus c.args.straps.addresses c.row_refusal-early.ensures c.part_open-part.ensures c.if-part-eq0.false).there
+
+pub bounds-parts-at : goal.bounds-parts-at
+bounds-parts-at c = (opened c.args.parts.now c.args.bus c.args.straps.addresses c.row_refusal-early.ensures c.part_open-part.ensures c.if-part-eq0.false).there
+
+pub offset_bounds-parts-at : goal.offset_bounds-parts-at
+offset_bounds-parts-at c = let h : c.part_open-part.result - 1 < length c.args.parts.now = (opened c.args.parts.now c.args.bus c.args.straps.addresses c.row_refusal-early.ensures c.part_open-part.ensures c.if-part-eq0.false).there in search rules
+
+pub offset_bounds-parts-at-2 : goal.offset_bounds-parts-at-2
+offset_bounds-parts-at-2 c = let h : c.part_open-part.result - 1 < length c.args.parts.now = (opened c.args.parts.now c.args.bus c.args.straps.addresses c.row_refusal-early.ensures c.part_open-part.ensures c.if-part-eq0.false).there in search rules
+
+pub returns : goal.returns
+returns c =
+    let o = opened c.args.parts.now c.args.bus c.args.straps.addresses c.row_refusal-early.ensures c.part_open-part.ensures c.if-part-eq0.false in
+    rw (c.read_open.ensures, c.read.ensures, o.same, o.named) (read_open_lem c.args.parts.now c.args.bus c.args.straps.addresses o.reached)

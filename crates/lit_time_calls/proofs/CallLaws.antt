@@ -6,13 +6,14 @@ use Rattle.device.specs.PowerUp.{power_up}
 use Rattle.device.specs.declared.Device.{Device}
 use Rattle.device.proofs.Sound.{registers_sound}
 use Rattle.lit_time.specs.LitTime.{lit_time}
-use Rattle.calls.specs.Calls.{scan, levels, clocks, Question, Call, access, give, ask}
+use Rattle.calls.specs.Calls.{clocks, Question, Call, give, ask}
 use Rattle.calls.specs.Served.{record_of}
 use Rattle.calls.specs.Outcome.{number}
 use Rattle.calls.proofs.Accepted.{number_says, driver_there}
 use Rattle.calls.proofs.Old.{clocked_sound}
 use Rattle.row.specs.Row.{records, number_on, done_on}
 use Rattle.row.specs.declared.Row.{Row}
+use Rattle.row.specs.declared.Done.{Done}
 use Rattle.printed.specs.Format.{byte, test_table}
 use Rattle.script_records.specs.Records.{clocks_of, step_of}
 use Rattle.lit_time_calls.specs.Progress.{Added, added_by, Ready, Counted}
@@ -29,25 +30,8 @@ counted_none r q t r' e z =
       totals = record { same_room = refl; total = λ i l. omega (arith, z i); rest = λ i l. refl };
     }
 
-pub access_adds : (r : Row) (c : ℕ) (sent room : List ℕ) (i : ℕ) → added_by r (access c sent room) i ≡ 0
-access_adds r c sent room i = either_none (eqb (number (access c sent room) (records r)) 0)
-
 pub ask_adds : (r : Row) (j : ℕ) (q : Question) (i : ℕ) → added_by r (ask j q) i ≡ 0
 ask_adds r j q i = either_none (eqb (number (ask j q) (records r)) 0)
-
-pub scan_adds : (r : Row) (j a b c d i : ℕ) → added_by r (give j (scan a b c d)) i ≡ 0
-scan_adds r j a b c d i = rw (either_none (eqb j (i / 8 + 1))) (either_none (eqb (number (give j (scan a b c d)) (records r)) 0))
-
-pub levels_adds : (r : Row) (j l i : ℕ) → added_by r (give j (levels l)) i ≡ 0
-levels_adds r j l i = rw (either_none (eqb j (i / 8 + 1))) (either_none (eqb (number (give j (levels l)) (records r)) 0))
-
--- a step record that is neither a scan nor pin levels
-pub clocks_step : (kind : ℕ) (b : List ℕ) → (kind ≡ 3 → ⊥) → (kind ≡ 4 → ⊥) → step_of kind b ≡ give (byte b 0) (clocks (clocks_of b))
-clocks_step kind b three four = rw (ne_eqb kind 3 three, ne_eqb kind 4 four)
-
--- clocks that are refused
-pub refused_adds : (r : Row) (q : Call) (i : ℕ) → (number_on r q ≡ 0 → ⊥) → added_by r q i ≡ 0
-refused_adds r q i h = rw (ne_eqb (number q (records r)) 0 h)
 
 -- what clocks that are served say of the row
 pub record Given (r : Row) (j : ℕ) : Type 0 where
@@ -70,6 +54,24 @@ given r t j k y z =
       named = e;
       count = rw e (ltb-true _ 4000000 q);
     }
+
+-- a step record that is neither a scan nor pin levels
+clocks_step : (kind : ℕ) (b : List ℕ) → (kind ≡ 3 → ⊥) → (kind ≡ 4 → ⊥) → step_of kind b ≡ give (byte b 0) (clocks (clocks_of b))
+clocks_step kind b three four = rw (ne_eqb kind 3 three, ne_eqb kind 4 four)
+
+-- a step record that is served, and is neither a scan nor pin levels
+pub record Ticks (r : Row) (kind : ℕ) (b : List ℕ) : Type 0 where
+  pub step : step_of kind b ≡ give (byte b 0) (clocks (clocks_of b))
+  pub served : number_on r (give (byte b 0) (clocks (clocks_of b))) ≡ 0
+  pub given : Given r (byte b 0)
+
+pub ticks : (r : Row) (t : List ℕ) (kind : ℕ) (b : List ℕ) (d : Done) → d ≡ done_on r (step_of kind b) → d.number ≡ 0 → (kind ≡ 3 → ⊥) → (kind ≡ 4 → ⊥)
+    → Ready r t → Ticks r kind b
+ticks r t kind b d e z three four y =
+    let q = clocks_step kind b three four in
+    let n : number_on r (step_of kind b) ≡ 0 = sym (ap (λ (x : Done). x.number) e) ∙ z in
+    let s = rw q at n in
+    record { step = q; served = s; given = given r t (byte b 0) (clocks_of b) y s }
 
 module _ (r : Row) (j k : ℕ) (z : number_on r (give j (clocks k)) ≡ 0) where
   -- the driver that they are given to, and another

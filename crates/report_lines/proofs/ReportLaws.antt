@@ -1,6 +1,6 @@
 -- What a report prints, by the answer of the lit time.
 -- Assumes nothing.
-use Rattle.ground.proofs.Names.{ℕ, zero, suc, ◌+◌, ◌*◌, ◌/◌, ◌%◌, ◌≤◌, ◌<◌, arith, Bool, true, false, ◌&&◌, List, ◌++◌, ◌≡◌, refl, sym, ap, ◌∙◌, ltb, length, get_or, drop, ltb-true, ltb-false, le-ltb, and_right}
+use Rattle.ground.proofs.Names.{ℕ, zero, suc, ◌+◌, ◌*◌, ◌/◌, ◌%◌, ◌≤◌, ◌<◌, arith, Bool, true, false, ◌&&◌, List, ◌++◌, ◌≡◌, refl, sym, ap, ◌∙◌, ltb, length, get_or, drop, ltb-true, le-ltb, and_right}
 use Rattle.text.specs.Text.{refusal_line}
 use Rattle.printed.specs.Script.{longest}
 use Rattle.text.specs.Written.{Written}
@@ -36,7 +36,7 @@ report_refused s t r l e z = go (ltb longest (length s)) refl
 
 -- the lines of the totals that are found
 pub report_served : (s t t' : List ℕ) (r : LitTimeAnswer) → length t ≡ 128 → r ≡ lit_answer s (length t) → t' ≡ totals_after s t → r.number ≡ 0
-    → (reported s ≡ total_lines (8 * r.drivers) (λ i. get_or t' i 0)) × (8 * r.drivers ≤ 128)
+    → reported s ≡ total_lines (8 * r.drivers) (λ i. get_or t' i 0)
 unfolding reported
 report_served s t t' r l e o h =
     let m = drivers_of s in
@@ -46,7 +46,7 @@ report_served s t t' r l e o h =
     let same : (i : ℕ) → i < 8 * m → total_at s i ≡ get_or t' i 0 = λ i b. rw o (sym (given s t z i b)) in
     let g : total_lines (8 * m) (total_at s) ≡ total_lines (8 * m) (λ i. get_or t' i 0) =
     lines_ext (8 * m) _ _ (λ i b. ap (λ (v : ℕ). total_line (i / 8 + 1) (i % 8) v) (same i b)) in
-    (rw (n, y.0, y.1) g, rw n (omega (arith, ltb-false (length t) (8 * m) y.2)))
+    rw (n, y.0, y.1) g
 
 -- the report in room that suffices
 pub whole : (s out out' : List ℕ) (end : ℕ) → Written (reported s) 0 out out' end → end ≤ length out

@@ -1,10 +1,8 @@
--- The record at a place of a script, and the call that it is.
+-- The record at a place of a script.
 -- Assumes nothing.
-use Rattle.ground.proofs.Names.{ℕ, ◌+◌, ◌-◌, ◌≤◌, arith, true, List, ◌≡◌, refl, sym, Bool, false, true≢false, eqb, eqb-true, ne_eqb, length, take, drop, length-drop, length-take-le, take_all, if}
-use Rattle.calls.specs.Calls.{scan, levels, clocks, segments, Call, give, ask}
-use Rattle.printed.specs.Format.{byte, kind_of, body_length, size_of, body_of, length_fits, well_formed, test_table, call_of}
+use Rattle.ground.proofs.Names.{ℕ, ◌+◌, ◌-◌, ◌≤◌, arith, true, List, ◌≡◌, length, take, drop, length-drop, length-take-le, take_all, if}
+use Rattle.printed.specs.Format.{kind_of, body_length, size_of, body_of, length_fits, well_formed}
 use Rattle.printed.proofs.Records.{fits}
-use Rattle.script_records.specs.Records.{clocks_of, step_of}
 use Rattle.script_records.proofs.SizeLaws.{size_says}
 
 -- a part of some bytes to their end
@@ -56,21 +54,3 @@ pub part_fits : {script : List ℕ} {from size : ℕ} → Found script from size
 part_fits {script} {from} {size} f kind k =
     let l : length (part_of script from size) ≡ body_length (drop from script) = omega (arith, f.part_length, f.exact) in
     rw (l, k, to_end from script) (fits (drop from script) f.well_formed).body_fits
-
--- a record that is neither the chain's, nor an access, nor a show is a scan, pin levels or clocks, and its body has two bytes or more
-pub step_call : (kind : ℕ) (b : List ℕ) → length_fits kind (length b) ≡ true → (kind ≡ 1 → ⊥) → (kind ≡ 2 → ⊥) → (kind ≡ 6 → ⊥)
-    → (call_of kind b ≡ step_of kind b) × (2 ≤ length b)
-step_call kind b t one two six =
-    rw (ne_eqb kind 2 two) (go (eqb kind 3) (eqb kind 4) (eqb kind 5) (simp (ne_eqb kind 1 one, ne_eqb kind 2 two, ne_eqb kind 6 six) at t))
-  where
-    go : (scans pins ticks : Bool) → if scans (eqb (length b) 5) (if pins (eqb (length b) 2) (if ticks (eqb (length b) 5) false)) ≡ true
-        → ◌≡◌ {A = Call}
-        (if scans (give (byte b 0) (scan (byte b 1) (byte b 2) (byte b 3) (byte b 4)))
-        (if pins (give (byte b 0) (levels (byte b 1)))
-        (if ticks (give (byte b 0) (clocks (clocks_of b))) (ask (byte b 0) (segments (byte b 1) test_table test_table)))))
-        (give (byte b 0) (if scans (scan (byte b 1) (byte b 2) (byte b 3) (byte b 4)) (if pins (levels (byte b 1)) (clocks (clocks_of b)))))
-        × (2 ≤ length b)
-    go true pins ticks h = (refl, omega (arith, eqb-true (length b) 5 h))
-    go false true ticks h = (refl, omega (arith, eqb-true (length b) 2 h))
-    go false false true h = (refl, omega (arith, eqb-true (length b) 5 h))
-    go false false false h = absurd (true≢false (sym h))

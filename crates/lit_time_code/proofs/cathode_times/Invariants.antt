@@ -1,5 +1,5 @@
 -- `lit_time_code::cathode_times` meets its contract. The invariant: d times are written. Assumes nothing.
-use Rattle.ground.proofs.Names.{◌-◌, ◌<◌, ◌≤◌, arith, append-nil, ◌∙◌, rules, Filled, filled_start, filled_more, filled_all}
+use Rattle.ground.proofs.Names.{◌-◌, ◌<◌, ◌≤◌, Filled}
 use Rattle.lit_time.specs.LitTime.{lit_time}
 use Rattle.lit_time.specs.Closed.{p0_of, time_by}
 use Rattle.lit_time_code.proofs.cathode_times.Given as goal

@@ -1,20 +1,23 @@
 -- `script_records::refusal_line` meets its contract. Assumes nothing.
-use Rattle.ground.proofs.Names.{◌≤◌, arith, ◌≡◌, sym, refl, length, take, length-take-le, rules}
-use Rattle.text.proofs.Room.{written, written_length}
-use Rattle.text.proofs.Digits.{decimal_short}
+use Rattle.ground.proofs.Names.{◌≡◌, sym, take, length-take-le}
 use Rattle.text.specs.Text.{refusal_line}
 use Rattle.script_records.proofs.LineLaws.{line_made}
 use Rattle.script_records.proofs.refusal_line.Goals as goal
-use Rattle.script_records.proofs.refusal_line.Tie as tie
 
-returns : tie.Need-returns
-returns c = rw (made c.before.before.before.before.before.before).0 at c.before.before.put3.ensures
+pub slice_bounds-line-end : goal.slice_bounds-line-end
+slice_bounds-line-end c =
+    (line_made c.args.number (c.put-first.ensures.place, c.put-first.ensures.room) (c.decimal-second.ensures.place, c.decimal-second.ensures.room)
+    (c.put-end.ensures.place, c.put-end.ensures.room)).1
 
-pub put-requires : goal.put-requires
-put-requires c =
-    let made : (take c.put-end.result c.put-end.new.1.0 ≡ refusal_line c.args.number) × (c.put-end.result ≤ length c.put-end.new.1.0) = let n = c.args.number in
-    let p = written c.put-first.ensures (omega arith) in
-    let q = written c.decimal-second.ensures (omega (arith, p.place, written_length _ _ _ _ _ p, decimal_short n)) in
-    let r = written c.put-end.ensures (omega (arith, p.place, q.place, written_length _ _ _ _ _ p, written_length _ _ _ _ _ q, decimal_short n)) in
-    line_made n refl p q r in
-    made.1
+pub slice_bounds-put-end-5 : goal.slice_bounds-put-end-5
+slice_bounds-put-end-5 c =
+    sym (length-take-le _ _
+    (line_made c.args.number (c.put-first.ensures.place, c.put-first.ensures.room) (c.decimal-second.ensures.place, c.decimal-second.ensures.room)
+    (c.put-end.ensures.place, c.put-end.ensures.room)).1)
+
+pub returns : goal.returns
+returns c =
+    let line : take c.put-end.result c.put-end.new.out ≡ refusal_line c.args.number =
+    (line_made c.args.number (c.put-first.ensures.place, c.put-first.ensures.room) (c.decimal-second.ensures.place, c.decimal-second.ensures.room)
+    (c.put-end.ensures.place, c.put-end.ensures.room)).0 in
+    rw line at c.put.ensures

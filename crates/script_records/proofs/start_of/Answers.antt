@@ -1,5 +1,5 @@
 -- `script_records::start_of` meets its contract. Assumes nothing.
-use Rattle.ground.proofs.Names.{arith, sym, ◌∙◌, rules}
+use Rattle.ground.proofs.Names.{arith, sym, ◌∙◌}
 use Rattle.script_records.proofs.StartLaws.{starts_after, starts_at_call, starts_malformed}
 use Rattle.script_records.proofs.start_of.Goals as goal
 

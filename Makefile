@@ -3,7 +3,8 @@
 # make report   the lit time of each cathode in the run of a script, by the report program, proved and built first where it must be. SCRIPT=FILE as
 #               above; OPTIONS are those of tools/report. tools/wear draws what it prints
 # make plan     the fewest accesses from the picture of the script FROM=FILE to that of TO=FILE, as text; each is a sample where it isn't given
-# make test     the gate: everything is proved from nothing, every wrong version is tried, then our own tests run
+# make test     the gate: everything is proved, every wrong version is tried, then our own tests run. What rt ci proved from nothing and tried of the same
+#               files on this machine it does not do again
 # make lib      the library for C, C++, Rust and Python, static and shared, with its header, in target/lib
 # make bench    the speed of the exported calls and of the programs, beside plain C, C tuned by hand and the second double
 # make install  puts the library, its header and pkg-config file, panel, the tools, docs and samples under PREFIX, which is /usr/local where it

@@ -123,8 +123,7 @@ fn refused(number: u8) -> LitTimeAnswer
 
 // Runs a script: gives the lit time of each driver's cathodes 0 to 7, driver 1's first, in the totals. 9 for a script that is too long, 1 for its
 // chain, 5 for room under 8 totals a driver; refused, no total changes.
-#[unsafe(no_mangle)]
-pub extern "C" fn max6954_lit_time(script: &[u8], totals: &mut [u64]) -> LitTimeAnswer
+pub fn max6954_lit_time(script: &[u8], totals: &mut [u64]) -> LitTimeAnswer
     ensures answer { result ≡ lit_answer script.now (length totals.old) }
     ensures totals { totals.new ≡ totals_after script.now totals.old }
 {

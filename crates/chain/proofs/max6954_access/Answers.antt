@@ -12,4 +12,4 @@ pub returns : goal.returns
 returns c =
     let e = rw c.access_by_arguments-first.ensures at c.shift_words-number.ensures in
     let w = rw e.1 at c.shift.ensures in
-    rw (c.take_words.ensures, w.0, w.1, e.0) (access_served c.args.chain.now c.args.clocks c.args.sent.now c.args.answer.now (sym e.0 ∙ c.if-number-ne0.false))
+    simp (c.take_words.ensures, w.0, w.1, e.0) (access_served c.args.chain.now c.args.clocks c.args.sent.now c.args.answer.now (sym e.0 ∙ c.if-number-ne0.false))

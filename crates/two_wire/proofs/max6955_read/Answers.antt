@@ -24,4 +24,5 @@ offset_bounds-parts-at-2 c = let h : c.part_open-part.result - 1 < length c.args
 pub returns : goal.returns
 returns c =
     let o = opened c.args.parts.now c.args.bus c.args.straps.addresses c.row_refusal-early.ensures c.part_open-part.ensures c.if-part-eq0.false in
-    rw (c.read_open.ensures, c.read.ensures, o.same, o.named) (read_open_lem c.args.parts.now c.args.bus c.args.straps.addresses o.reached)
+    let s = rw o.named at o.same in
+    simp (c.read_open.ensures, c.read.ensures, o.named, s) (read_open_lem c.args.parts.now c.args.bus c.args.straps.addresses o.reached)

@@ -24,4 +24,5 @@ offset_bounds-parts-at-2 c = let h : c.part_open-part.result - 1 < length c.args
 pub returns : goal.returns
 returns c =
     let o = opened c.args.parts.now c.args.bus c.args.straps.addresses c.row_refusal-early.ensures c.part_open-part.ensures c.if-part-eq0.false in
-    rw (c.write_open.ensures, c.written.ensures, o.same, o.named) (write_open c.args.parts.now c.args.bus c.args.straps.addresses c.args.byte o.reached)
+    let s = rw o.named at o.same in
+    simp (c.write_open.ensures, c.written.ensures, o.named, s) (write_open c.args.parts.now c.args.bus c.args.straps.addresses c.args.byte o.reached)

@@ -2,6 +2,7 @@
 -- Assumes nothing.
 use Rattle.ground.proofs.Names.{ℕ, ◌+◌, ◌*◌, ◌/◌, ◌%◌, ◌^◌, ◌<◌, arith, true, ◌≡◌, refl, ◌∙◌, eq-eqb, ne_eqb, lt-ltb, bit}
 use Rattle.words.specs.Addresses.{word_of}
+use Rattle.words.specs.declared.Register.{Register}
 use Rattle.words.specs.declared.Word.{Word}
 use Rattle.words.specs.declared.Word.TheVariants.{Write, Read}
 use Rattle.device.specs.Record.{with_shift}
@@ -37,7 +38,7 @@ module _ (d : Device) (h : d.command < 128) where
       }
 
 -- a word leaves the address
-obeyed_address : (d : Device) (w : Word) → (obeyed d w).command ≡ d.command
+obeyed_address : (d : Device) (w : Word Register) → (obeyed d w).command ≡ d.command
 obeyed_address d (Write r v) = refl
 obeyed_address d (Read r) = refl
 

@@ -3,6 +3,7 @@
 -- Assumes nothing.
 use Rattle.ground.proofs.Names.{ℕ, ◌/◌, ◌%◌, ◌<◌, Bool, true, false, ◌≡◌, refl, ap, ◌∙◌, eqb, ltb, eqb-true, eq-eqb, ne_eqb, if, bit, and_left, and_right}
 use Rattle.words.specs.Addresses.{read_at, word_of}
+use Rattle.words.specs.declared.Register.{Register}
 use Rattle.words.specs.declared.Word.{Word}
 use Rattle.words.specs.declared.Word.TheVariants.{Write, Read}
 use Rattle.registers.specs.Registers.{data_of}
@@ -34,11 +35,11 @@ unfolding pinned
 old_pinned d l e = rw e
 
 -- ---- what the old family's steps keep
-obeyed_family : (d : Device) (w : Word) → (obeyed d w).family ≡ d.family
+obeyed_family : (d : Device) (w : Word Register) → (obeyed d w).family ≡ d.family
 obeyed_family d (Write r v) = refl
 obeyed_family d (Read r) = refl
 
-obeyed_ports : (d : Device) (w : Word) → (obeyed d w).ports ≡ d.ports
+obeyed_ports : (d : Device) (w : Word Register) → (obeyed d w).ports ≡ d.ports
 obeyed_ports d (Write r v) = refl
 obeyed_ports d (Read r) = refl
 

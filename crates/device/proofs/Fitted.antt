@@ -2,6 +2,7 @@
 -- Assumes nothing.
 use Rattle.ground.proofs.Names.{◌≡◌, refl}
 use Rattle.words.specs.Addresses.{word_of}
+use Rattle.words.specs.declared.Register.{Register}
 use Rattle.words.specs.declared.Word.{Word}
 use Rattle.words.specs.declared.Word.TheVariants.{Write, Read}
 use Rattle.device.specs.Record.{with_shift}
@@ -10,7 +11,7 @@ use Rattle.device.specs.TwoWire.{commanded, received, sent}
 use Rattle.device.specs.FittedByte.{FittedByte}
 use Rattle.device.specs.declared.Device.{Device}
 
-obeyed_fitted : (d : Device) (w : Word) → (obeyed d w).fitted ≡ d.fitted
+obeyed_fitted : (d : Device) (w : Word Register) → (obeyed d w).fitted ≡ d.fitted
 obeyed_fitted d (Write r v) = refl
 obeyed_fitted d (Read r) = refl
 

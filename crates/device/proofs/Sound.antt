@@ -3,6 +3,7 @@
 use Rattle.ground.proofs.Names.{ℕ, ◌+◌, ◌%◌, arith, Bool, true, false, ◌&&◌, and_assoc, ◌≡◌, refl, ltb, lt-ltb, ltb-true, if, and_left, and_right, mod_small}
 use mathlib.Core.Bool.{and-true}
 use Rattle.words.specs.Addresses.{written_at, read_at, word_of}
+use Rattle.words.specs.declared.Register.{Register}
 use Rattle.words.specs.declared.Word.{Word}
 use Rattle.words.specs.declared.Word.TheVariants.{Write, Read}
 use Rattle.keys.specs.Keys.{scanned_keys}
@@ -42,7 +43,7 @@ moved d x a h f e = sound_with d x d.answer_mark a (f (registers_sound d e)) (ma
 kept_mark : (d : Device) (x : Registers) → (sound_registers d.registers ≡ true → sound_registers x ≡ true) → sound_of d ≡ true → sound_of (with_registers d x) ≡ true
 kept_mark d x f e = moved d x d.command (command_sound d e) f e
 
-obeyed_sound : (d : Device) (w : Word) → sound_of d ≡ true → sound_of (obeyed d w) ≡ true
+obeyed_sound : (d : Device) (w : Word Register) → sound_of d ≡ true → sound_of (obeyed d w) ≡ true
 obeyed_sound d (Write r v) e = sound_with d (written d.registers r v) 0 d.command (write_sound d.registers r v (registers_sound d e)) refl (command_sound d e)
 obeyed_sound d (Read r) e = sound_with d (after_read d.registers r) 1 d.command (after_sound d.registers r (registers_sound d e)) refl (command_sound d e)
 

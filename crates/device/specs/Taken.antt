@@ -19,7 +19,7 @@ answered d r =
     with_shift (with_registers d (after_read d.registers r)) (answer_word d.shift (data_of d.registers r))
 
 -- a driver obeys its shift word; after a write the shift word stays as clocked. The answer mark is set by a read word, cleared by a write word
-abbrev pub obeyed : Device → Word → Device
+abbrev pub obeyed : Device → Word Register → Device
 obeyed d (Write r v) = with_mark (with_registers d (written d.registers r v)) 0
 obeyed d (Read r) = with_mark (answered d r) 1
 

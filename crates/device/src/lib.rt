@@ -3,14 +3,12 @@
 
 ghost use Rattle.std.specs.Prelude.{◌≡◌};
 ghost use Rattle.ground.specs.Choice.{if, bit};
-ghost use Rattle.words.specs.declared.Word.TheVariants.{Write, Read};
-ghost use Rattle.device.specs.Record.{with_registers, with_shift, with_fitted, with_mark, with_command, with_ports};
+ghost use Rattle.device.specs.Record.{with_fitted};
 ghost use Rattle.device.specs.PowerUp.{power_up, power_up6957};
 ghost use Rattle.device.specs.Sound.{sound_of};
-ghost use Rattle.device.specs.Taken.{answer_word, obeyed, taken};
 ghost use Rattle.device.specs.Steps.{scanned, clocked, shown_plane};
 ghost use Rattle.device.specs.TwoWire.{next_address, commanded, received, sent_data, sent};
-ghost use Rattle.device.specs.Families.{ports_taken, takes, pinned, interrupt_of, port_sound, sound_record};
+ghost use Rattle.device.specs.Families.{takes, pinned, interrupt_of, port_sound, sound_record};
 ghost use Rattle.device.specs.Soundness.{Soundness};
 ghost use Rattle.device.specs.BothFamilies.{BothFamilies};
 ghost use Rattle.device.specs.ShiftWord.{ShiftWord};
@@ -25,7 +23,7 @@ use digits::Planes;
 use keys::Keys;
 use port_registers::PortRegisters;
 use registers::Registers;
-use words::{Plane, Register, Word};
+use words::{Addressed, Plane, Register, RegisterFile};
 
 #[repr(C)]
 #[derive(Clone, Copy)]
@@ -109,126 +107,55 @@ impl Device {
     pub fn new_fitted(fitted: u8) -> Device
         ensures { result ≡ with_fitted power_up fitted }
     {
-        let d = Device::new();
-        d.with_fitted(fitted)
-    }
-
-    fn with_fitted(mut self, fitted: u8) -> Device
-        ensures { result ≡ with_fitted self fitted }
-    {
-        self.fitted = fitted;
-        self
-    }
-
-    fn with_registers(mut self, registers: Registers) -> Device
-        ensures { result ≡ with_registers self registers }
-    {
-        self.registers = registers;
-        self
-    }
-
-    fn with_shift(mut self, shift: u16) -> Device
-        ensures { result ≡ with_shift self shift }
-    {
-        self.shift = shift;
-        self
-    }
-
-    fn with_mark(mut self, mark: u8) -> Device
-        ensures { result ≡ with_mark self mark }
-    {
-        self.answer_mark = mark;
-        self
-    }
-
-    fn with_command(mut self, address: u8) -> Device
-        ensures { result ≡ with_command self address }
-    {
-        self.command = address;
-        self
-    }
-
-    fn with_ports(mut self, ports: PortRegisters) -> Device
-        ensures { result ≡ with_ports self ports }
-    {
-        self.ports = ports;
-        self
-    }
-
-    // A write word obeyed.
-    fn written(self, register: Register, v: u8) -> Device
-        ensures { result ≡ obeyed self (Write register v) }
-    {
-        let old = self.registers;
-        let after = self.with_registers(old.written(register, v));
-        after.with_mark(0)
-    }
-
-    // A read word obeyed: the register's data is taken before a debounced register is cleared.
-    fn answered(self, register: Register) -> Device
-        ensures { result ≡ obeyed self (Read register) }
-    {
-        let old = self.registers;
-        let new = old.read(register);
-        let v = old.read_data(register);
-        let after = self.with_registers(new);
-        let answer = after.with_shift(answer_word(self.shift, v));
-        answer.with_mark(1)
-    }
-
-    // A word taken by a driver of the old family: it becomes the shift word, and is obeyed.
-    fn old_taken(self, word: u16) -> Device
-        ensures { result ≡ taken self word }
-    {
-        let loaded = self.with_shift(word);
-        match words::decode(word) {
-            Word::Write(register, v) => loaded.written(register, v),
-            Word::Read(register) => loaded.answered(register),
+        Device {
+            fitted,
+            ..Device::POWER_UP
         }
     }
 
-    // And by a MAX6957.
-    fn ports_taken(self, word: u16) -> Device
-        ensures { result ≡ ports_taken self word }
-    {
-        let old = self.ports;
-        let after = self.with_ports(old.taken(word));
-        let left = after.with_shift(old.shift_word(word));
-        left.with_mark(mark_of(word))
-    }
-
-    // By either.
+    // A word taken: the registers of its family obey it, and it becomes the shift word, with what a read answers in its D7 to D0.
+    #[tactic(auto, using(crate::proofs::Shift::old_taken), unfolding(crate::specs::Families::takes))]
     pub fn taken(self, word: u16) -> Device
         ensures { result ≡ takes self word }
     {
+        let marked = Device {
+            answer_mark: answer_mark(word),
+            ..self
+        };
         if self.family == 1 {
-            return self.ports_taken(word);
+            Device {
+                ports: self.ports.taken(word),
+                shift: words::shift_word(self.ports, word),
+                ..marked
+            }
+        } else {
+            Device {
+                registers: words::obeyed(self.registers, word),
+                shift: words::shift_word(self.registers, word),
+                ..marked
+            }
         }
-        self.old_taken(word)
     }
 
     // A key scan: the closed keys of groups A to D.
-    pub fn scanned(self, a: u8, b: u8, c: u8, d: u8) -> Device
+    pub fn scanned(mut self, a: u8, b: u8, c: u8, d: u8) -> Device
         ensures { result ≡ scanned self a b c d }
     {
-        let mut registers = self.registers;
-        let old = registers.keys;
-        let new = old.scanned(registers.controls.ports, a, b, c, d);
-        registers.keys = new;
-        self.with_registers(registers)
+        let groups = self.registers.controls.ports;
+        self.registers.keys = self.registers.keys.scanned(groups, a, b, c, d);
+        self
     }
 
     // Pin levels given: 28 of a MAX6957, else five.
+    #[tactic(auto, unfolding(crate::specs::Families::pinned))]
     pub fn with_pins(mut self, levels: u32) -> Device
         ensures { result ≡ pinned self levels }
     {
         if self.family == 1 {
-            let old = self.ports;
-            let new = old.pinned(levels);
-            self.ports = new;
-            return self;
+            self.ports = self.ports.pinned(levels);
+        } else {
+            self.registers.pins = levels;
         }
-        self.registers.pins = levels;
         self
     }
 
@@ -237,66 +164,73 @@ impl Device {
         ensures { result ≡ interrupt_of self }
     {
         if self.family == 1 {
-            return self.ports.transition.interrupt;
+            self.ports.transition.interrupt
+        } else {
+            self.registers.keys.interrupt
         }
-        self.registers.keys.interrupt
     }
 
     // Master clocks given.
-    pub fn clocked(self, clocks: u32) -> Device
+    pub fn clocked(mut self, clocks: u32) -> Device
         ensures { result ≡ clocked self clocks }
     {
-        let mut registers = self.registers;
-        registers.blink = blink::advanced(registers.blink, clocks);
-        self.with_registers(registers)
+        self.registers.blink = blink::advanced(self.registers.blink, clocks);
+        self
     }
 
     // A command byte of the two-wire bus: the address, its top bit ignored.
+    #[tactic(auto, unfolding(crate::specs::TwoWire::commanded))]
     pub fn commanded(self, v: u8) -> Device
         ensures { result ≡ commanded self v }
     {
-        self.with_command(v % 128)
+        Device {
+            command: v % 128,
+            ..self
+        }
     }
 
     // A data byte of the two-wire bus, written at the command address, which then steps.
+    #[tactic(auto, unfolding(crate::specs::TwoWire::received))]
     pub fn received(self, v: u8) -> Device
         ensures { result ≡ received self v }
     {
-        let a = self.command;
-        let old = self.registers;
-        let new = old.written(words::written_at(a), v);
-        let after = self.with_registers(new);
-        after.with_command(next_address(a))
+        let to = self.command;
+        Device {
+            registers: self.registers.written(Register::written_at(to), v),
+            command: next_address(to),
+            ..self
+        }
     }
 
     // The data that the two-wire bus reads at the command address.
+    #[tactic(auto, unfolding(crate::specs::TwoWire::sent_data))]
     pub fn sent_data(self) -> u8
         ensures { result ≡ sent_data self }
     {
-        let old = self.registers;
-        old.read_data(words::read_at(self.command))
+        self.registers.read_data(Register::read_at(self.command))
     }
 
     // What that read leaves; the command address then steps.
+    #[tactic(auto, unfolding(crate::specs::TwoWire::sent))]
     pub fn sent(self) -> Device
         ensures { result ≡ sent self }
     {
-        let a = self.command;
-        let old = self.registers;
-        let new = old.read(words::read_at(a));
-        let left = self.with_registers(new);
-        left.with_command(next_address(a))
+        let from = self.command;
+        Device {
+            registers: self.registers.read(Register::read_at(from)),
+            command: next_address(from),
+            ..self
+        }
     }
 
     // The plane shown.
     pub fn shown(self) -> Plane
         ensures { result ≡ shown_plane self }
     {
-        let config = self.registers.config;
         blink::shown(
             self.registers.blink,
-            blink::is_set(config.b),
-            blink::is_set(config.e),
+            blink::is_set(self.registers.config.b),
+            blink::is_set(self.registers.config.e),
         )
     }
 
@@ -322,11 +256,11 @@ impl Device {
     fn ports_sound(self) -> bool
         ensures { result ≡ port_sound self }
     {
-        let ports = self.ports;
-        ports.sound() & (self.answer_mark < 2)
+        self.ports.sound() & (self.answer_mark < 2)
     }
 
     // Whether the fields of the record's own family do.
+    #[tactic(auto, unfolding(crate::specs::Families::sound_record))]
     pub fn sound(self) -> bool
         ensures { result ≡ sound_record self }
     {
@@ -341,17 +275,10 @@ impl Device {
 }
 
 // The answer mark that a word leaves: its D15.
-fn mark_of(word: u16) -> u8
+pub fn answer_mark(word: u16) -> u8
     ensures { result ≡ if (bit 15 word) 1 0 }
 {
-    if word / 32768 % 2 == 1 { 1 } else { 0 }
-}
-
-// A shift word with its D7 to D0 replaced.
-fn answer_word(shift: u16, v: u8) -> u16
-    ensures { result ≡ answer_word shift v }
-{
-    shift / 256 * 256 + v as u16
+    u8::from(words::is_read(word))
 }
 
 // The command address after a data byte: it stays at 127.

@@ -1,28 +1,21 @@
 -- A word, taken by a driver of the old family, leaves what `low_taken` says; taken by a MAX6957, what `ports_replaced` does.
 -- Assumes nothing.
-use Rattle.ground.proofs.Names.{ℕ, ◌/◌, ◌%◌, ◌<◌, dec_lt, arith, true, false, ◌≡◌, refl, ap, ap₂, ◌∙◌, lt-ltb, le-ltb, eq-eqb, ne_eqb, if, bit}
-use Rattle.words.specs.Addresses.{word_of}
-use Rattle.words.specs.declared.Word.{Word}
-use Rattle.words.specs.declared.Word.TheVariants.{Write, Read}
+use Rattle.ground.proofs.Names.{ℕ, ◌/◌, ◌%◌, ◌<◌, dec_lt, arith, true, false, ◌≡◌, ap, ap₂, ◌∙◌, lt-ltb, le-ltb, eq-eqb, ne_eqb, if, bit}
 use Rattle.device.specs.Record.{with_mark}
-use Rattle.device.specs.Taken.{obeyed, taken}
+use Rattle.device.specs.Taken.{taken}
 use Rattle.port_registers.specs.PortTaken.{taken as port_taken, shift_word}
 use Rattle.port_registers.specs.declared.PortRegisters.{PortRegisters}
 use Rattle.port_high_words.specs.PortHighWords.{is_high, new_ports, new_shift as new_port_shift}
 use Rattle.port_high_words.proofs.High.{high_ports}
 use Rattle.device.specs.Families.{takes}
 use Rattle.device.proofs.Families.{old_takes}
-use Rattle.device.proofs.Shift.{shift_word_lem}
+use Rattle.device.proofs.Shift.{taken_parts}
 use Rattle.device.specs.Record.{with_registers, with_shift}
 use Rattle.device.specs.declared.Device.{Device}
 use Rattle.high_words.specs.HighWords.{new_mark}
-use Rattle.high_words.specs.LowWords.{is_ports, low_registers, low_shift, registers_by, shift_by, low_taken, ports_replaced}
+use Rattle.high_words.specs.LowWords.{is_ports, low_registers, low_shift, low_taken, ports_replaced}
 
-by_word : (d : Device) (w : ℕ) (x : Word) → obeyed (with_shift d w) x ≡ with_mark (with_shift (with_registers d (registers_by d.registers x)) (shift_by d.registers w x)) (obeyed (with_shift d w) x).answer_mark
-by_word d w (Write r v) = refl
-by_word d w (Read r) = refl
-
-mark_is : (w : ℕ) → w < 65536 → if (bit 15 w) 1 0 ≡ new_mark w
+pub mark_is : (w : ℕ) → w < 65536 → if (bit 15 w) 1 0 ≡ new_mark w
 mark_is w h = go (dec_lt (w / 4096) 8)
   where
     go : Dec (w / 4096 < 8) → if (bit 15 w) 1 0 ≡ new_mark w
@@ -30,10 +23,8 @@ mark_is w h = go (dec_lt (w / 4096) 8)
     go (no n) = rw (le-ltb (w / 4096) 8 (omega (arith, n)), eq-eqb (w / 32768 % 2) 1 (omega (arith, n, h)))
 
 low_taken_lem : (d : Device) (w : ℕ) → w < 65536 → taken d w ≡ low_taken d w
-unfolding taken low_registers low_shift
-low_taken_lem d w h =
-    by_word d w (word_of w)
-    ∙ ap (λ (m : ℕ). with_mark (with_shift (with_registers d (registers_by d.registers (word_of w))) (shift_by d.registers w (word_of w))) m) (shift_word_lem.marked d w ∙ mark_is w h)
+unfolding low_registers low_shift
+low_taken_lem d w h = taken_parts d w ∙ ap (with_mark (with_shift (with_registers d (low_registers d.registers w)) (low_shift d.registers w))) (mark_is w h)
 
 -- by a driver that is no MAX6957
 pub low_place : (w : ℕ) → w < 65536 → (d : Device) → is_ports d.family ≡ false → takes d w ≡ low_taken d w

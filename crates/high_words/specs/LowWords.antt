@@ -2,13 +2,11 @@
 -- Assumes nothing.
 use Rattle.std.specs.Prelude.{ℕ, Bool, eqb}
 use Rattle.words.specs.Addresses.{word_of}
-use Rattle.words.specs.declared.Word.{Word}
-use Rattle.words.specs.declared.Word.TheVariants.{Write, Read}
+use Rattle.words.specs.Decoded.{obeyed, shift_by}
 use Rattle.registers.specs.Registers.{written, data_of, after_read}
 use Rattle.registers.specs.declared.Registers.{Registers}
 use Rattle.port_registers.specs.declared.PortRegisters.{PortRegisters}
 use Rattle.device.specs.Record.{with_registers, with_shift, with_mark, with_ports}
-use Rattle.device.specs.Taken.{answer_word}
 use Rattle.device.specs.declared.Device.{Device}
 use Rattle.high_words.specs.HighWords.{new_mark}
 
@@ -17,22 +15,12 @@ abbrev pub is_ports : ℕ → Bool
 is_ports family = eqb family 1
 
 -- the registers after a word
-abbrev pub registers_by : Registers → Word → Registers
-registers_by x (Write r v) = written x r v
-registers_by x (Read r) = after_read x r
-
--- the shift word after it
-abbrev pub shift_by : Registers → ℕ → Word → ℕ
-shift_by x w (Write r v) = w
-shift_by x w (Read r) = answer_word w (data_of x r)
-
--- the registers after it
 unfoldable pub low_registers : Registers → ℕ → Registers
-low_registers x w = registers_by x (word_of w)
+low_registers x w = obeyed written after_read x (word_of w)
 
 -- the shift word after it
 unfoldable pub low_shift : Registers → ℕ → ℕ
-low_shift x w = shift_by x w (word_of w)
+low_shift x w = shift_by data_of x w (word_of w)
 
 -- the record after it
 abbrev pub low_taken : Device → ℕ → Device

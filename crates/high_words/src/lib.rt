@@ -1,13 +1,9 @@
-// What a word changes where its record lies, by value: with an address of 0x20 or above a digit's byte in each plane, else the registers; the shift word and the answer mark.
+// What a word with an address of 0x20 or above changes where its record lies, by value: a digit's byte in each plane, and the shift word.
 #![tactic(auto)]
 
 ghost use Rattle.std.specs.Prelude.{◌≡◌};
-ghost use Rattle.high_words.specs.HighWords.{in_place, digit_of, new_p0, new_p1, digit_read, new_shift, new_mark};
-ghost use Rattle.high_words.specs.LowWords.{is_ports, low_registers, low_shift};
-ghost use Rattle.device.specs.Taken.{answer_word};
-
-use registers::Registers;
-use words::Word;
+ghost use Rattle.high_words.specs.HighWords.{in_place, digit_of, new_p0, new_p1, digit_read, new_shift};
+ghost use Rattle.high_words.specs.LowWords.{is_ports};
 
 // A word with an address of 0x20 or above, for a driver of the old family.
 pub fn in_place(word: u16, family: u8) -> bool
@@ -67,45 +63,9 @@ pub fn new_shift(word: u16, p0: u8, p1: u8) -> u16
     }
 }
 
-// The answer mark after the word.
-pub fn new_mark(word: u16) -> u8
-    ensures { result ≡ new_mark word }
-{
-    let row = word / 4096;
-    if row < 8 { 0 } else { 1 }
-}
-
 // A driver is a MAX6957.
 pub fn is_ports(family: u8) -> bool
     ensures { result ≡ is_ports family }
 {
     family == 1
-}
-
-// The registers of a driver of the old family after any word.
-pub fn low_registers(old: Registers, word: u16) -> Registers
-    ensures { result ≡ low_registers old word }
-{
-    match words::decode(word) {
-        Word::Write(register, v) => old.written(register, v),
-        Word::Read(register) => old.read(register),
-    }
-}
-
-// The data that a read word finds in them, set into the word.
-fn answer(old: u16, v: u8) -> u16
-    ensures { result ≡ answer_word old v }
-{
-    old / 256 * 256 + v as u16
-}
-
-// The shift word after any word, by its registers before.
-pub fn low_shift(old: Registers, word: u16) -> u16
-    ensures { result ≡ low_shift old word }
-{
-    if word / 32768 % 2 == 1 {
-        let register = words::read_at((word / 256 % 128) as u8);
-        return answer(word, old.read_data(register));
-    }
-    word
 }

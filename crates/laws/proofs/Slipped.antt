@@ -3,6 +3,7 @@
 use Rattle.ground.proofs.Names.{ℕ, zero, suc, ◌-◌, ◌*◌, ◌≤◌, ◌<◌, le_of_suc-le-suc, not-suc-le-zero, arith, Bool, true, false, ◌&&◌, List, [], ◌∷◌, ◌++◌, map, append_assoc, ◌≡◌, refl, sym, ap, ap₂, ◌∙◌, eqb, ltb, if, length, take, drop, get_or, replicate, length-map, drop_at, take_at, eqb-true, tabulate, tabulate_ext, Agree, and_left, and_right}
 use Rattle.refusals.specs.Refusals.{bytes_for}
 use Rattle.words.specs.Addresses.{word_of}
+use Rattle.words.specs.declared.Register.{Register}
 use Rattle.words.specs.declared.Word.{Word}
 use Rattle.words.specs.declared.Word.TheVariants.{Write, Read}
 use Rattle.wire.specs.Bits.{bits, value, unpack, word_at}
@@ -42,7 +43,7 @@ old_apart : (d : Device) (s m w : ℕ) → taken (with_mark (with_shift d s) m) 
 unfolding taken
 old_apart d s m w = go (word_of w)
   where
-    go : (o : Word) → obeyed (with_shift (with_mark (with_shift d s) m) w) o ≡ obeyed (with_shift d w) o
+    go : (o : Word Register) → obeyed (with_shift (with_mark (with_shift d s) m) w) o ≡ obeyed (with_shift d w) o
     go (Write r v) = refl
     go (Read r) = refl
 

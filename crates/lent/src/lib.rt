@@ -100,24 +100,24 @@ pub fn take_words(chain: &mut [Device], words: &[u16])
             chain[i].registers.planes.p0[at] = high_words::new_p0(w, p0);
             chain[i].registers.planes.p1[at] = high_words::new_p1(w, p1);
             chain[i].shift = high_words::new_shift(w, p0, p1);
-            chain[i].answer_mark = high_words::new_mark(w);
+            chain[i].answer_mark = device::answer_mark(w);
         } else if high_words::is_ports(family) {
             let x = chain[i].ports;
             if port_high_words::is_high(w) {
                 chain[i].shift = port_high_words::new_shift(w, x);
                 chain[i].ports.stored = port_high_words::new_stored(w, x.stored);
                 chain[i].ports.transition = port_high_words::new_transition(w, x);
-                chain[i].answer_mark = high_words::new_mark(w);
+                chain[i].answer_mark = device::answer_mark(w);
             } else {
-                chain[i].shift = x.shift_word(w);
+                chain[i].shift = words::shift_word(x, w);
                 chain[i].ports = x.taken(w);
-                chain[i].answer_mark = high_words::new_mark(w);
+                chain[i].answer_mark = device::answer_mark(w);
             }
         } else {
             let old = chain[i].registers;
-            chain[i].shift = high_words::low_shift(old, w);
-            chain[i].registers = high_words::low_registers(old, w);
-            chain[i].answer_mark = high_words::new_mark(w);
+            chain[i].shift = words::shift_word(old, w);
+            chain[i].registers = words::obeyed(old, w);
+            chain[i].answer_mark = device::answer_mark(w);
         }
         i += 1;
     }

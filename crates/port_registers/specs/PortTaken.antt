@@ -1,11 +1,12 @@
 -- Believed: document 02, request 8, by 004, "Transition (Port Data Change) Detection": what a MAX6957 does with a word, and with pin levels.
 -- Assumes nothing.
-use Rattle.std.specs.Prelude.{ℕ, ◌+◌, ◌*◌, ◌/◌, Bool, not, ◌&&◌, List, [], ◌∷◌, eqb}
+use Rattle.std.specs.Prelude.{ℕ, Bool, not, ◌&&◌, List, [], ◌∷◌, eqb}
 use Rattle.std.specs.Int.Bits.{bit_and, bit_xor}
 use Rattle.ground.specs.Choice.{if, odd}
 use Rattle.port_words.specs.PortAddresses.{port_word_of}
-use Rattle.port_words.specs.declared.PortWord.{PortWord}
-use Rattle.port_words.specs.declared.PortWord.TheVariants.{Write, Read}
+use Rattle.port_words.specs.declared.PortRegister.{PortRegister}
+use Rattle.words.specs.Decoded.{obeyed as obeyed_by, shift_by}
+use Rattle.words.specs.declared.Word.{Word}
 use Rattle.port_registers.specs.PortRecord.{with_pins, with_transition}
 use Rattle.port_registers.specs.Levels.{watched}
 use Rattle.port_registers.specs.PortRegisters.{written, data_of, after_read}
@@ -25,9 +26,8 @@ unfoldable pub settled : PortRegisters → PortRegisters
 settled x = with_transition x (if (differs x.transition (watched x)) (raised x.transition) x.transition)
 
 -- a word obeyed
-abbrev pub obeyed : PortRegisters → PortWord → PortRegisters
-obeyed x (Write r v) = written x r v
-obeyed x (Read r) = after_read x r
+abbrev pub obeyed : PortRegisters → Word PortRegister → PortRegisters
+obeyed = obeyed_by written after_read
 
 -- a word taken
 unfoldable pub taken : PortRegisters → ℕ → PortRegisters
@@ -37,14 +37,9 @@ taken x w = settled (obeyed x (port_word_of w))
 unfoldable pub pinned : PortRegisters → ℕ → PortRegisters
 pinned x levels = settled (with_pins x levels)
 
--- the shift word after a word: a read gives in D7 to D0 the data that the register had before
-abbrev pub shift_by : PortRegisters → ℕ → PortWord → ℕ
-shift_by x w (Write r v) = w
-shift_by x w (Read r) = w / 256 * 256 + data_of x r
-
--- the same, of the word as clocked
+-- the shift word after a word as clocked: a read gives in D7 to D0 the data that the register had before
 abbrev pub shift_word : PortRegisters → ℕ → ℕ
-shift_word x w = shift_by x w (port_word_of w)
+shift_word x w = shift_by data_of x w (port_word_of w)
 
 -- what a MAX6957 is given: a word, or pin levels
 pub data PortStep : Type 0 where

@@ -1,12 +1,12 @@
 // The registers of one MAX6957 by value: what a write stores, what a read gives and leaves, and transition detection.
 #![tactic(auto)]
 
-ghost use Rattle.std.specs.Prelude.{◌≡◌, ◌/◌, ◌%◌, ◌<◌, get_or, set};
+ghost use Rattle.std.specs.Prelude.{◌≡◌, ◌+◌, ◌/◌, ◌%◌, ◌<◌, ◌≤◌, true, false, MatchOption, get_or, set};
+ghost use Rattle.port_words.specs.Table3.{within};
 ghost use Rattle.port_registers.specs.Levels.{directions, inputs, levels, watched};
 ghost use Rattle.port_registers.specs.PackedPairs.{drawn, sixteen};
 ghost use Rattle.port_registers.specs.PortRegisters.{config_of, config_data, armed, accessed, configured, span_written, span_data, written, data_of, after_read};
-ghost use Rattle.port_registers.specs.PortRecord.{with_pairs, with_currents};
-ghost use Rattle.port_registers.specs.PortTaken.{settled, taken, pinned, shift_word};
+ghost use Rattle.port_registers.specs.PortTaken.{settled, taken, pinned};
 ghost use Rattle.port_registers.specs.PortPowerUp.{power_up};
 ghost use Rattle.port_registers.specs.PortSound.{sound_ports};
 ghost use Rattle.port_registers.specs.PortSoundness.{PortSoundness};
@@ -16,7 +16,8 @@ ghost use Rattle.port_registers.specs.TestShowsOnly.{TestShowsOnly};
 ghost use Rattle.port_registers.specs.Table4.{Table4};
 ghost use Rattle.port_registers.specs.PortBench.{PortBench};
 
-use port_words::{PortRegister, PortWord};
+use port_words::PortRegister;
+use words::RegisterFile;
 
 // The stored bits of the configuration register, 0 or 1 each in a sound record.
 #[repr(C)]
@@ -64,13 +65,15 @@ pub struct Transition {
 
 impl Transition {
     // A snapshot taken: detection on, INT cleared.
-    fn armed(mut self, snapshot: u8) -> Transition
+    fn armed(self, snapshot: u8) -> Transition
         ensures { result ≡ armed self snapshot }
     {
-        self.snapshot = snapshot;
-        self.detecting = 1;
-        self.interrupt = 0;
-        self
+        Transition {
+            snapshot,
+            detecting: 1,
+            interrupt: 0,
+            ..self
+        }
     }
 
     // The mask register written or read: INT cleared, detection off where INT was raised.
@@ -132,14 +135,14 @@ impl PortRegisters {
         ensures { (result ≡ inputs self) × (result < 0x10000000) }
     {
         if self.config.s % 2 == 1 {
-            let pairs = self.pairs;
-            directions(pairs)
+            directions(self.pairs)
         } else {
             0xFFFFFFF
         }
     }
 
     // What the ports read, as bits.
+    #[tactic(auto, unfolding(crate::specs::Levels::levels))]
     pub fn levels(self) -> u32
         ensures { result ≡ levels self }
     {
@@ -148,18 +151,19 @@ impl PortRegisters {
     }
 
     // Which of P24 to P30 are inputs.
+    #[tactic(auto, using(crate::proofs::LevelLaws::directions_watched))]
     fn watched_inputs(self) -> u8
         ensures { (result ≡ inputs self / 0x100000 % 128) × (result < 128) }
     {
         if self.config.s % 2 == 1 {
-            let pairs = self.pairs;
-            (sixteen(pairs[5], pairs[6], 0, 0) % 128) as u8
+            (sixteen(self.pairs[5], self.pairs[6], 0, 0) % 128) as u8
         } else {
             127
         }
     }
 
     // What P24 to P30 read.
+    #[tactic(auto, using(crate::proofs::LevelLaws::watched_parts))]
     fn watched(self) -> u8
         ensures { result ≡ watched self }
     {
@@ -173,116 +177,17 @@ impl PortRegisters {
     fn configured(mut self, v: u8) -> PortRegisters
         ensures { result ≡ configured self v }
     {
-        let config = PortConfig::of(v);
-        self.config = config;
+        self.config = PortConfig::of(v);
         if v / 128 % 2 == 1 {
-            let old = self.transition;
-            let new = old.armed(self.watched());
-            self.transition = new;
+            self.transition = self.transition.armed(self.watched());
         } else {
             self.transition.detecting = 0;
         }
         self
     }
 
-    // A byte of the port configuration written; an r above 6 changes nothing.
-    fn pair_written(mut self, r: u8, v: u8) -> PortRegisters
-        ensures { result ≡ with_pairs self (set self.pairs r v) }
-    {
-        let k = r as usize;
-        if k < 7 {
-            self.pairs[k] = v;
-        }
-        self
-    }
-
-    // A byte of the currents written; an r above 13 changes nothing.
-    fn current_written(mut self, r: u8, v: u8) -> PortRegisters
-        ensures { result ≡ with_currents self (set self.currents r v) }
-    {
-        let k = r as usize;
-        if k < 14 {
-            self.currents[k] = v;
-        }
-        self
-    }
-
-    // A register written.
-    pub fn written(mut self, register: PortRegister, v: u8) -> PortRegisters
-        ensures { result ≡ written self register v }
-    {
-        match register {
-            PortRegister::NoOp => self,
-            PortRegister::GlobalCurrent => {
-                self.global = v % 16;
-                self
-            }
-            PortRegister::Configuration => self.configured(v),
-            PortRegister::Mask => {
-                let mut old = self.transition;
-                old.mask = v % 128;
-                let new = old.accessed();
-                self.transition = new;
-                self
-            }
-            PortRegister::DisplayTest => {
-                self.test = v % 2;
-                self
-            }
-            PortRegister::Pairs(r) => self.pair_written(r, v),
-            PortRegister::Current(r) => self.current_written(r, v),
-            PortRegister::Span(first, count) => {
-                let new = span_written(self.stored, first, count, v);
-                self.stored = new;
-                self
-            }
-            PortRegister::Unlisted => self,
-        }
-    }
-
-    // A register's data, as a read takes it.
-    pub fn read_data(self, register: PortRegister) -> u8
-        ensures { result ≡ data_of self register }
-    {
-        let pairs = self.pairs;
-        let currents = self.currents;
-        let config = self.config;
-        match register {
-            PortRegister::NoOp => 0,
-            PortRegister::GlobalCurrent => self.global,
-            PortRegister::Configuration => config.read_data(),
-            PortRegister::Mask => self.transition.mask,
-            PortRegister::DisplayTest => self.test,
-            PortRegister::Pairs(r) => get7(pairs, r),
-            PortRegister::Current(r) => get14(currents, r),
-            PortRegister::Span(first, count) => span_data(self.levels(), first, count),
-            PortRegister::Unlisted => 0,
-        }
-    }
-
-    // The registers after a register's data was taken.
-    pub fn read(mut self, register: PortRegister) -> PortRegisters
-        ensures { result ≡ after_read self register }
-    {
-        match register {
-            PortRegister::NoOp => self,
-            PortRegister::GlobalCurrent => self,
-            PortRegister::Configuration => self,
-            PortRegister::Mask => {
-                let old = self.transition;
-                let new = old.accessed();
-                self.transition = new;
-                self
-            }
-            PortRegister::DisplayTest => self,
-            PortRegister::Pairs(_) => self,
-            PortRegister::Current(_) => self,
-            PortRegister::Span(_, _) => self,
-            PortRegister::Unlisted => self,
-        }
-    }
-
     // The comparison with the snapshot: a watched port that reads differently raises INT and ends detection.
+    #[tactic(auto, unfolding(crate::specs::PortTaken::settled))]
     pub fn settled(mut self) -> PortRegisters
         ensures { result ≡ settled self }
     {
@@ -297,32 +202,15 @@ impl PortRegisters {
     }
 
     // The registers after a word was taken.
+    #[tactic(auto, unfolding(crate::specs::PortTaken::taken))]
     pub fn taken(self, word: u16) -> PortRegisters
         ensures { result ≡ taken self word }
     {
-        match port_words::decode(word) {
-            PortWord::Write(register, v) => {
-                let after = self.written(register, v);
-                after.settled()
-            }
-            PortWord::Read(register) => {
-                let after = self.read(register);
-                after.settled()
-            }
-        }
-    }
-
-    // The shift word after a word: a read's data in D7 to D0, as the register had it before.
-    pub fn shift_word(self, word: u16) -> u16
-        ensures { result ≡ shift_word self word }
-    {
-        match port_words::decode(word) {
-            PortWord::Write(_, _) => word,
-            PortWord::Read(register) => word / 256 * 256 + self.read_data(register) as u16,
-        }
+        words::obeyed(self, word).settled()
     }
 
     // Pin levels given.
+    #[tactic(auto, unfolding(crate::specs::PortTaken::pinned))]
     pub fn pinned(mut self, levels: u32) -> PortRegisters
         ensures { result ≡ pinned self levels }
     {
@@ -350,7 +238,59 @@ impl PortRegisters {
     }
 }
 
+impl RegisterFile for PortRegisters {
+    type Register = PortRegister;
+
+    ghost written = { written };
+
+    ghost data_of = { data_of };
+
+    ghost after_read = { after_read };
+
+    fn written(mut self, register: PortRegister, v: u8) -> PortRegisters {
+        match register {
+            PortRegister::GlobalCurrent => self.global = v % 16,
+            PortRegister::Configuration => self = self.configured(v),
+            PortRegister::Mask => {
+                self.transition.mask = v % 128;
+                self.transition = self.transition.accessed();
+            }
+            PortRegister::DisplayTest => self.test = v % 2,
+            PortRegister::Pairs(r) => put(&mut self.pairs, r, v),
+            PortRegister::Current(r) => put(&mut self.currents, r, v),
+            PortRegister::Span(first, count) => {
+                self.stored = span_written(self.stored, first, count, v);
+            }
+            PortRegister::NoOp | PortRegister::Unlisted => {}
+        }
+        self
+    }
+
+    fn read_data(self, register: PortRegister) -> u8 {
+        match register {
+            PortRegister::GlobalCurrent => self.global,
+            PortRegister::Configuration => self.config.read_data(),
+            PortRegister::Mask => self.transition.mask,
+            PortRegister::DisplayTest => self.test,
+            PortRegister::Pairs(r) => self.pairs.get(r as usize).copied().unwrap_or(0),
+            PortRegister::Current(r) => self.currents.get(r as usize).copied().unwrap_or(0),
+            PortRegister::Span(first, count) => span_data(self.levels(), first, count),
+            PortRegister::NoOp | PortRegister::Unlisted => 0,
+        }
+    }
+
+    // Only a read of the mask register changes anything.
+    fn read(mut self, register: PortRegister) -> PortRegisters {
+        match register {
+            PortRegister::Mask => self.transition = self.transition.accessed(),
+            _ => {}
+        }
+        self
+    }
+}
+
 // Bits 1, 3 .. 31 of a number drawn together.
+#[tactic(auto, unfolding(crate::specs::PackedPairs::drawn))]
 fn drawn(pairs: u32) -> u32
     ensures { result ≡ drawn pairs }
 {
@@ -365,10 +305,11 @@ fn drawn(pairs: u32) -> u32
 fn sixteen(a: u8, b: u8, c: u8, d: u8) -> u32
     ensures { (result ≡ sixteen a b c d) × (result < 0x10000) }
 {
-    drawn(a as u32 + b as u32 * 0x100 + c as u32 * 0x10000 + d as u32 * 0x1000000)
+    drawn(u32::from_le_bytes([a, b, c, d]))
 }
 
 // The upper bits of all pairs, that of P4 lowest.
+#[tactic(auto, using(crate::proofs::LevelLaws::upper_zero, crate::proofs::LevelLaws::directions_small), unfolding(crate::specs::Levels::directions))]
 fn directions(pairs: [u8; 7]) -> u32
     ensures { (result ≡ directions pairs) × (result < 0x10000000) }
 {
@@ -376,22 +317,25 @@ fn directions(pairs: [u8; 7]) -> u32
         + sixteen(pairs[4], pairs[5], pairs[6], 0) * 0x10000
 }
 
-// The stored bits after a write to some ports; ports that aren't among P4 to P31, or more than eight, take nothing.
+// The place of the first of some ports; none where they aren't all among P4 to P31, or are more than eight.
+fn place(first: u8, count: u8) -> Option<u32>
+    ensures { MatchOption result (within first count ≡ false) (λ at. (within first count ≡ true) × (first ≡ at + 4) × (count ≤ 8) × (at + count ≤ 28)) }
+{
+    if first < 4 || 8 < count || 32 < first as u32 + count as u32 {
+        return None;
+    }
+    Some(first as u32 - 4)
+}
+
+// The stored bits after a write to some ports; those that have no place take nothing.
+#[tactic(auto, using(crate::proofs::SpanLaws::by_shifts))]
 fn span_written(stored: u32, first: u8, count: u8, v: u8) -> u32
     ensures { result ≡ span_written stored first count v }
 {
-    let from = first as u32;
+    let Some(at) = place(first, count) else {
+        return stored;
+    };
     let size = count as u32;
-    if from < 4 {
-        return stored;
-    }
-    if 8 < size {
-        return stored;
-    }
-    if 32 < from + size {
-        return stored;
-    }
-    let at = from - 4;
     let end = at + size;
     let high = (stored >> end) << end;
     let middle = (v as u32 & ((1 << size) - 1)) << at;
@@ -399,39 +343,26 @@ fn span_written(stored: u32, first: u8, count: u8, v: u8) -> u32
     high | (middle | low)
 }
 
-// What some ports read, the first in D0; ports that aren't among P4 to P31, or more than eight, read 0.
+// What some ports read, the first in D0; those that have no place read 0.
+#[tactic(auto, using(crate::proofs::SpanLaws::read_shifts))]
 fn span_data(levels: u32, first: u8, count: u8) -> u8
     ensures { result ≡ span_data levels first count }
 {
-    let from = first as u32;
-    let size = count as u32;
-    if from < 4 {
+    let Some(at) = place(first, count) else {
         return 0;
-    }
-    if 8 < size {
-        return 0;
-    }
-    if 32 < from + size {
-        return 0;
-    }
-    let read = (levels >> (from - 4)) & ((1 << size) - 1);
+    };
+    let read = (levels >> at) & ((1 << count) - 1);
     (read % 256) as u8
 }
 
-// The byte at i, or 0 where i is past the end.
-fn get7(a: [u8; 7], i: u8) -> u8
-    ensures { result ≡ get_or a i 0 }
+// The byte at i replaced; an i past the end changes nothing.
+fn put(bytes: &mut [u8], i: u8, v: u8)
+    ensures { bytes.new ≡ set bytes.old i v }
 {
-    let k = i as usize;
-    if k < 7 { a[k] } else { 0 }
-}
-
-// The byte at i, or 0 where i is past the end.
-fn get14(a: [u8; 14], i: u8) -> u8
-    ensures { result ≡ get_or a i 0 }
-{
-    let k = i as usize;
-    if k < 14 { a[k] } else { 0 }
+    let at = i as usize;
+    if at < bytes.len() {
+        bytes[at] = v;
+    }
 }
 
 // A theorem: what reads give and writes leave, port by port.

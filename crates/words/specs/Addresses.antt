@@ -1,14 +1,14 @@
 -- Believed: document 01, "Bits on the wire": a word is a write or a read, and names one kind of register; "Registers": addresses follow Table 6.
 -- Assumes nothing.
 use Rattle.std.specs.Prelude.{ℕ, ◌/◌, ◌%◌, List, [], ◌∷◌, eqb, ltb, get_or}
-use Rattle.ground.specs.Choice.{if, bit}
+use Rattle.ground.specs.Choice.{if}
 use Rattle.words.specs.declared.Plane.TheVariants.{P0, P1}
 use Rattle.words.specs.declared.KeyGroup.TheVariants.{A, B, C, D}
 use Rattle.words.specs.declared.ControlRegister.TheVariants.{DecodeMode, GlobalIntensity, ScanLimit, GpioData, PortConfiguration, DisplayTest, DigitType}
 use Rattle.words.specs.declared.Register.{Register}
 use Rattle.words.specs.declared.Register.TheVariants.{NoOp, Control, Configuration, KeyMask, KeyDebounced, KeyPressed, Intensity, Digit, BothPlanes, Unlisted}
 use Rattle.words.specs.declared.Word.{Word}
-use Rattle.words.specs.declared.Word.TheVariants.{Write, Read}
+use Rattle.words.specs.Decoded.{decoded}
 
 -- 0x00 to 0x07, in order: alike written and read
 abbrev pub low_alike : List Register
@@ -59,6 +59,6 @@ written_at a = if (eqb (a / 8) 1) (get_or low_written (a % 8) NoOp) (alike_at a)
 abbrev pub read_at : ℕ → Register
 read_at a = if (eqb (a / 8) 1) (get_or low_read (a % 8) NoOp) (alike_at a)
 
--- bit D15 is 1 for a read, D14 to D8 the address, D7 to D0 the data
-abbrev pub word_of : ℕ → Word
-word_of w = if (bit 15 w) (Read (read_at (w / 256 % 128))) (Write (written_at (w / 256 % 128)) (w % 256))
+-- what a word says
+abbrev pub word_of : ℕ → Word Register
+word_of = decoded written_at read_at

@@ -1,2 +1,3 @@
+pub mod Decoded
 pub mod Addresses
 pub mod Table6

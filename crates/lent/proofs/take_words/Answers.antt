@@ -1,5 +1,7 @@
 -- `lent::take_words` meets its contract. Assumes nothing.
 use Rattle.ground.proofs.Names.{ℕ, ◌<◌, ◌≤◌, arith, sym, subst, ◌∙◌, length, ◌+◌}
+use Rattle.high_words.specs.LowWords.{low_registers, low_shift}
+use Rattle.high_words.proofs.LowLaws.{mark_is}
 use Rattle.pass.proofs.StepLaws.{taken_start}
 use Rattle.pass.proofs.FoundLaws.{in_room_below}
 use Rattle.lent.proofs.Taken.{high, ports_far, ports_near, low, taken_turn}
@@ -10,6 +12,7 @@ pub loop-i-init : goal.loop-i-init
 loop-i-init c = (omega arith, taken_start c.args.chain.now c.args.words.now)
 
 pub loop-i-preserved : goal.loop-i-preserved
+unfolding low_registers low_shift
 loop-i-preserved c =
     let i = c.loop-i.i in
     let ws = c.args.words.now in
@@ -21,18 +24,18 @@ loop-i-preserved c =
     elim c.if-in_place.branch [
       | then-in_place w ↦ (
         inside,
-        w.chain-is ∙ high c.loop-i.chain i _ lt _ fits (sym c.in_place.ensures ∙ w.if-in_place.true) _ _ _ _ _ w.digit-at.ensures w.new_p0.ensures w.new_p1.ensures w.new_shift.ensures w.new_mark.ensures ∙ next,
+        w.chain-is ∙ high c.loop-i.chain i _ lt _ fits (sym c.in_place.ensures ∙ w.if-in_place.true) _ _ _ _ _ w.digit-at.ensures w.new_p0.ensures w.new_p1.ensures w.new_shift.ensures (w.answer_mark.ensures ∙ mark_is _ fits) ∙ next,
       )
       | else-in_place+then-is_ports+then-is_high w ↦ (
         inside,
-        w.chain-is ∙ ports_far c.loop-i.chain i _ lt _ fits (sym w.is_ports.ensures ∙ w.if-is_ports.true) (sym w.is_high.ensures ∙ w.if-is_high.true) _ _ _ _ w.new_shift-then-is_high.ensures w.new_stored.ensures w.new_transition.ensures w.new_mark-then-is_high.ensures ∙ next,
+        w.chain-is ∙ ports_far c.loop-i.chain i _ lt _ fits (sym w.is_ports.ensures ∙ w.if-is_ports.true) (sym w.is_high.ensures ∙ w.if-is_high.true) _ _ _ _ w.new_shift-then-is_high.ensures w.new_stored.ensures w.new_transition.ensures (w.answer_mark-then-is_high.ensures ∙ mark_is _ fits) ∙ next,
       )
       | else-in_place+then-is_ports+else-is_high w ↦ (
         inside,
-        w.chain-is ∙ ports_near c.loop-i.chain i _ lt _ fits (sym w.is_ports.ensures ∙ w.if-is_ports.true) _ _ _ w.shift_word.ensures w.taken.ensures w.new_mark-else-is_high.ensures ∙ next,
+        w.chain-is ∙ ports_near c.loop-i.chain i _ lt _ fits (sym w.is_ports.ensures ∙ w.if-is_ports.true) _ _ _ w.shift_word.ensures w.taken.ensures (w.answer_mark-else-is_high.ensures ∙ mark_is _ fits) ∙ next,
       )
       | else-in_place+else-is_ports w ↦ (
         inside,
-        w.chain-is ∙ low c.loop-i.chain i _ lt _ fits (sym w.is_ports.ensures ∙ w.if-is_ports.false) _ _ _ w.low_shift.ensures w.low_registers.ensures w.new_mark-else-is_ports.ensures ∙ next,
+        w.chain-is ∙ low c.loop-i.chain i _ lt _ fits (sym w.is_ports.ensures ∙ w.if-is_ports.false) _ _ _ w.shift_word-else-is_ports.ensures w.obeyed.ensures (w.answer_mark-else-is_ports.ensures ∙ mark_is _ fits) ∙ next,
       )
     ]

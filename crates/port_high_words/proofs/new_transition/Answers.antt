@@ -7,7 +7,7 @@ use Rattle.port_high_words.specs.PortHighWords.{new_stored}
 use Rattle.port_high_words.proofs.new_transition.Goals as goal
 
 pub returns-then-x-eq1 : goal.returns-then-x-eq1
-returns-then-x-eq1 c = simp (c.settled-settled.ensures, c.new_stored-stored.ensures)
+returns-then-x-eq1 c = simp (c.settled.ensures, c.new_stored.ensures)
 
 pub returns-else-x-eq1 : goal.returns-else-x-eq1
 returns-else-x-eq1 c =

@@ -32,35 +32,15 @@ impl Controls {
         ensures { result ≡ control_written self control v }
     {
         match control {
-            ControlRegister::DecodeMode => {
-                self.decode = v;
-                self
-            }
-            ControlRegister::GlobalIntensity => {
-                self.global = v % 16;
-                self
-            }
-            ControlRegister::ScanLimit => {
-                self.limit = v % 8;
-                self
-            }
-            ControlRegister::GpioData => {
-                self.gpio = v % 32;
-                self
-            }
-            ControlRegister::PortConfiguration => {
-                self.ports = v;
-                self
-            }
-            ControlRegister::DisplayTest => {
-                self.test = v % 2;
-                self
-            }
-            ControlRegister::DigitType => {
-                self.types = v;
-                self
-            }
+            ControlRegister::DecodeMode => self.decode = v,
+            ControlRegister::GlobalIntensity => self.global = v % 16,
+            ControlRegister::ScanLimit => self.limit = v % 8,
+            ControlRegister::GpioData => self.gpio = v % 32,
+            ControlRegister::PortConfiguration => self.ports = v,
+            ControlRegister::DisplayTest => self.test = v % 2,
+            ControlRegister::DigitType => self.types = v,
         }
+        self
     }
 
     // A register's data, gpio_data being what GPIO data reads; digit type can't be read.
@@ -118,10 +98,7 @@ impl Config {
 fn phase_bit(phase: Plane) -> u8
     ensures { (result ≡ phase_bit phase) × (result ≤ 1) }
 {
-    match phase {
-        Plane::P0 => 1,
-        Plane::P1 => 0,
-    }
+    u8::from(phase == Plane::P0)
 }
 
 // A theorem: the width of each control register, and the bits of the configuration register.

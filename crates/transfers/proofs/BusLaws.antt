@@ -14,7 +14,11 @@ use Rattle.calls.specs.CallRefusals.{families_below, all_sound}
 use Rattle.calls.proofs.Accepted.{each_zero}
 use Rattle.bus.specs.declared.Bus.{Bus}
 use Rattle.bus.specs.Straps.{matched, distinct, seven_bits}
-use Rattle.bus.specs.States.{Use, command, writing, reading, State, idle, slave, unmatched, transfer, free_at, use_at, state_of, bus_of, sound_bus}
+use Rattle.bus.specs.declared.Use.{Use}
+use Rattle.bus.specs.declared.Use.TheVariants.{Command, Writing, Reading}
+use Rattle.bus.specs.declared.State.{State}
+use Rattle.bus.specs.declared.State.TheVariants.{Idle, Slave, Unmatched, Transfer}
+use Rattle.bus.specs.States.{free_at, use_at, state_of, bus_of, sound_bus}
 use Rattle.bus.specs.BusCalls.{start, put, get, stop}
 use Rattle.bus.specs.BusRefusals.{wire_refusal}
 use Rattle.bus.specs.BusServed.{given, asked, served, nobody, put_reply, asked_reply, given_back}
@@ -67,11 +71,11 @@ module _ (ds : List Device) (b : Bus) (σ : List ℕ) where
   either true x = refl
   either false x = refl
 
-  pub starts : bus_outcome σ start b ds ≡ moved_to (moved found_from b (bus_of slave)) ds
+  pub starts : bus_outcome σ start b ds ≡ moved_to (moved found_from b (bus_of Slave)) ds
   unfolding number bus_after parts_after reply
   starts = rw (wire_from, either (eqb found_from 0) ds, either {A = List ℕ} (eqb found_from 0) [])
 
-  pub stops : bus_outcome σ stop b ds ≡ moved_to (moved found_from b (bus_of idle)) ds
+  pub stops : bus_outcome σ stop b ds ≡ moved_to (moved found_from b (bus_of Idle)) ds
   unfolding number bus_after parts_after reply
   stops = rw (wire_from, either (eqb found_from 0) ds, either {A = List ℕ} (eqb found_from 0) [])
 
@@ -85,7 +89,7 @@ module _ (ds : List Device) (b : Bus) (σ : List ℕ) where
     pub named : reach ≡ b.part
     pub some : 1 ≤ b.part
     pub there : b.part ≤ n
-    pub state : state_of b ≡ transfer b.part (use_at b.phase)
+    pub state : state_of b ≡ Transfer b.part (use_at b.phase)
     pub back : bus_of (state_of b) ≡ b
 
   pub reached : (reach ≡ 0 → ⊥) → Reached
@@ -104,18 +108,18 @@ module _ (ds : List Device) (b : Bus) (σ : List ℕ) where
 
   -- the answer to a byte has two numbers
   put_two : (m : ℕ) (s : State) → get_or (put_reply m s) 0 0 ∷ get_or (put_reply m s) 1 0 ∷ [] ≡ put_reply m s
-  put_two m idle = refl
-  put_two zero slave = refl
-  put_two (suc m) slave = refl
-  put_two m unmatched = refl
-  put_two m (transfer k command) = refl
-  put_two m (transfer k writing) = refl
-  put_two m (transfer k reading) = refl
+  put_two m Idle = refl
+  put_two zero Slave = refl
+  put_two (suc m) Slave = refl
+  put_two m Unmatched = refl
+  put_two m (Transfer k Command) = refl
+  put_two m (Transfer k Writing) = refl
+  put_two m (Transfer k Reading) = refl
 
   asked_two : (u : Use) (d : Device) → get_or (asked_reply u d) 0 0 ∷ get_or (asked_reply u d) 1 0 ∷ [] ≡ asked_reply u d
-  asked_two command d = refl
-  asked_two writing d = refl
-  asked_two reading d = refl
+  asked_two Command d = refl
+  asked_two Writing d = refl
+  asked_two Reading d = refl
 
   -- where no transfer is open, a byte changes no record
   put_free : (v p : ℕ) → served (put v) (free_at p) ds ≡ ds

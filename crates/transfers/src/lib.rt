@@ -4,7 +4,8 @@
 ghost use Rattle.std.specs.Prelude.{◌≤◌, [], ◌∷◌, ◌≡◌, eqb, take};
 ghost use Rattle.ground.specs.Choice.{if};
 ghost use Rattle.bus.specs.Straps.{matched, distinct, seven_bits};
-ghost use Rattle.bus.specs.States.{slave, idle, use_at, bus_of};
+ghost use Rattle.bus.specs.declared.State.TheVariants.{Slave, Idle};
+ghost use Rattle.bus.specs.States.{use_at, bus_of};
 ghost use Rattle.bus.specs.BusServed.{opened, given, asked, slave_reply};
 ghost use Rattle.transfers.specs.Transfers.{few, later_none, refusal_from, moved, part_open, byte_answer, refused_byte, put_answer, write_free, read_free, read_open};
 
@@ -157,7 +158,7 @@ fn moved(number: u8, bus: Bus, left: Bus) -> BusAnswer
 
 // A start's answer: the slave byte is awaited.
 pub fn start_answer(early: u8, n: usize, bus: Bus, straps: Straps) -> BusAnswer
-    ensures { result ≡ moved (refusal_from early n bus straps.addresses) bus (bus_of slave) }
+    ensures { result ≡ moved (refusal_from early n bus straps.addresses) bus (bus_of Slave) }
 {
     let number = refusal(early, n, bus, straps);
     moved(number, bus, Bus { part: 0, phase: 1 })
@@ -165,7 +166,7 @@ pub fn start_answer(early: u8, n: usize, bus: Bus, straps: Straps) -> BusAnswer
 
 // A stop's answer: the bus is idle.
 pub fn stop_answer(early: u8, n: usize, bus: Bus, straps: Straps) -> BusAnswer
-    ensures { result ≡ moved (refusal_from early n bus straps.addresses) bus (bus_of idle) }
+    ensures { result ≡ moved (refusal_from early n bus straps.addresses) bus (bus_of Idle) }
 {
     let number = refusal(early, n, bus, straps);
     moved(number, bus, Bus::IDLE)

@@ -1,8 +1,12 @@
 -- The first number of a list that isn't 0, and what rows that gave 0 tell.
 --     first_zero, first-last, found-last, found-rest       a list of numbers
 --     size_served, segments-served, plane-served       what calls that are served have
+--     row_number                 no row of the table has the number 0
 -- Assumes nothing.
 use Rattle.ground.proofs.Names.{ℕ, ◌<◌, ◌≤◌, arith, Bool, true, false, ◌&&◌, List, [], ◌∷◌, ◌++◌, ◌≡◌, refl, sym, eqb, leb, ltb, length, eqb-true, eqb-false, leb-true, ltb-true, ltb-false, if, passed, and_left, and_right}
+use Rattle.refusals.specs.Numbers.{number_by}
+use Rattle.refusals.specs.declared.Refusal.{Refusal}
+use Rattle.refusals.specs.declared.Refusal.TheVariants.{Chain, Driver, Clocks, Sent, Room, Argument, Unsound, Record, Script, Clash, Address, Wanted, List as ListRow, Lacked}
 use Rattle.refusals.specs.Refusals.{bytes_for, clocks_refusal, sent_refusal, room_refusal, segments_refusal, plane_refusal, first_of, size_refusal}
 
 -- the first number of a list that isn't 0 is 0: all are
@@ -81,3 +85,20 @@ plane_served p0 p1 first last e =
       digits = ltb-true _ _ (and_right (eqb (length p0) 16 && eqb (length p1) 16) (ltb last 16) u);
       range = leb-true _ _ (and_right (eqb (length p0) 16 && eqb (length p1) 16 && ltb last 16) (leb first last) t);
     }
+
+-- no row of the table has the number 0
+pub row_number : (r : Refusal) → number_by r ≡ 0 → ⊥
+row_number Chain e = absurd (omega (arith, e))
+row_number Driver e = absurd (omega (arith, e))
+row_number Clocks e = absurd (omega (arith, e))
+row_number Sent e = absurd (omega (arith, e))
+row_number Room e = absurd (omega (arith, e))
+row_number Argument e = absurd (omega (arith, e))
+row_number Unsound e = absurd (omega (arith, e))
+row_number Record e = absurd (omega (arith, e))
+row_number Script e = absurd (omega (arith, e))
+row_number Clash e = absurd (omega (arith, e))
+row_number Address e = absurd (omega (arith, e))
+row_number Wanted e = absurd (omega (arith, e))
+row_number ListRow e = absurd (omega (arith, e))
+row_number Lacked e = absurd (omega (arith, e))

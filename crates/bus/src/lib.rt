@@ -2,7 +2,7 @@
 #![tactic(auto)]
 
 ghost use Rattle.std.specs.Prelude.{◌≡◌};
-ghost use Rattle.bus.specs.States.{use_at, state_of, phase_of, bus_of};
+ghost use Rattle.bus.specs.States.{use_at, state_of, phase_of, bus_of, sound_bus};
 ghost use Rattle.bus.specs.BusIsolation.{BusIsolation};
 ghost use Rattle.bus.specs.Acknowledged.{Acknowledged};
 ghost use Rattle.bus.specs.Transactions.{Transactions};
@@ -23,6 +23,13 @@ pub struct Bus {
 
 impl Bus {
     pub const IDLE: Bus = Bus { part: 0, phase: 0 };
+
+    // Whether it names a part that is there, of n, or none, in a phase that there is.
+    pub fn is_sound(self, n: usize) -> bool
+        ensures { result ≡ sound_bus n self }
+    {
+        self.part <= n && self.phase < 3
+    }
 }
 
 // An open transfer: a write whose command address is awaited, a write of data, a read.

@@ -8,7 +8,8 @@ use Rattle.calls.specs.Served.{record_of}
 use Rattle.calls.proofs.Records.{sound_at, family_at_lem}
 use Rattle.bus.specs.declared.Bus.{Bus}
 use Rattle.bus.specs.Straps.{strap_of}
-use Rattle.bus.specs.States.{State, state_of}
+use Rattle.bus.specs.declared.State.{State}
+use Rattle.bus.specs.States.{state_of}
 use Rattle.bus.specs.BusCalls.{BusCall, start, put, get, stop, give, ask}
 use Rattle.bus.specs.BusOutcome.{number, bus_after, parts_after, reply}
 use Rattle.bus.specs.BusServed.{next}

@@ -7,7 +7,11 @@ use Rattle.device.specs.declared.Device.{Device}
 use Rattle.calls.specs.CallRefusals.{all_sound}
 use Rattle.bus.specs.declared.Bus.{Bus}
 use Rattle.bus.specs.Straps.{strap_of, matched}
-use Rattle.bus.specs.States.{Use, command, writing, reading, State, idle, slave, unmatched, transfer, free_at, use_at, state_of, bus_of, sound_bus}
+use Rattle.bus.specs.declared.Use.{Use}
+use Rattle.bus.specs.declared.Use.TheVariants.{Command, Writing, Reading}
+use Rattle.bus.specs.declared.State.{State}
+use Rattle.bus.specs.declared.State.TheVariants.{Idle, Slave, Unmatched, Transfer}
+use Rattle.bus.specs.States.{free_at, use_at, state_of, bus_of, sound_bus}
 use Rattle.bus.specs.BusCalls.{BusCall, put, get, on_bus}
 use Rattle.bus.specs.BusRefusals.{wire_refusal}
 use Rattle.bus.specs.BusOutcome.{number, bus_after, parts_after, reply}
@@ -24,12 +28,12 @@ module _ (σ : List ℕ) (q : BusCall) (b : Bus) (ds : List Device) (t : on_bus 
   served_by = rw (t, z) (rw e (refl, refl, refl))
 
 -- what a bus state stands for, by its numbers
-use_write : (P : Use → Type 0) → P command → P writing → (p : ℕ) → p < 2 → P (use_at p)
+use_write : (P : Use → Type 0) → P Command → P Writing → (p : ℕ) → p < 2 → P (use_at p)
 use_write P c w zero h = c
 use_write P c w (suc zero) h = w
 use_write P c w (suc (suc p)) h = absurd (omega arith)
 
-pub state_part : (b : Bus) → 1 ≤ b.part → state_of b ≡ transfer b.part (use_at b.phase)
+pub state_part : (b : Bus) → 1 ≤ b.part → state_of b ≡ Transfer b.part (use_at b.phase)
 state_part b h = rw (ne_eqb b.part 0 (λ e. omega arith))
 
 pub state_free : (b : Bus) → b.part ≡ 0 → state_of b ≡ free_at b.phase
@@ -40,7 +44,7 @@ abbrev Quiet : ℕ → List ℕ → BusCall → List Device → State → Type 0
 Quiet n σ q ds s = (given_back n σ q s ds ≡ 0 ∷ 255 ∷ []) × (served q s ds ≡ ds) × (next n σ q s ≡ s)
 
 -- a slave byte that names a part
-pub slave_taken : (k v : ℕ) → 1 ≤ k → (opened k v ≡ transfer k (if (odd v) reading command)) × (slave_reply k ≡ 1 ∷ 0 ∷ [])
+pub slave_taken : (k v : ℕ) → 1 ≤ k → (opened k v ≡ Transfer k (if (odd v) Reading Command)) × (slave_reply k ≡ 1 ∷ 0 ∷ [])
 slave_taken zero v h = absurd (not-suc-le-zero h)
 slave_taken (suc k) v h = (refl, refl)
 
@@ -70,32 +74,32 @@ module _ (σ : List ℕ) (b : Bus) (ds : List Device) (sixteen : length σ ≡ 1
   acknowledged =
       record {
         slave_matched = λ v k z e f h g m.
-            let r = served_by σ (put v) b ds refl z slave (rw (e, f)) in
+            let r = served_by σ (put v) b ds refl z Slave (rw (e, f)) in
             let x = matches sixteen (byte_sound z).0 v k h g m in
-            let opens = elim (odd v) as (λ t. bus_of (transfer k (if t reading command)) ≡ record { part = k; phase = if t 2 0 }) [ true ↦ refl | false ↦ refl ] in
+            let opens = elim (odd v) as (λ t. bus_of (Transfer k (if t Reading Command)) ≡ record { part = k; phase = if t 2 0 }) [ true ↦ refl | false ↦ refl ] in
             (r.0 ∙ rw x (slave_taken k v h).1, r.1, r.2 ∙ rw x (ap bus_of (slave_taken k v h).0 ∙ opens));
         slave_unmatched = λ v z e f m.
-            let r = served_by σ (put v) b ds refl z slave (rw (e, f)) in
+            let r = served_by σ (put v) b ds refl z Slave (rw (e, f)) in
             let x = slave_none (length ds) v (byte_sound z).0 m in
             record { reads = r.0 ∙ rw x; same_parts = r.1; bus_left = r.2 ∙ rw x };
         written = λ v z h f.
             let r = served_by σ (put v) b ds refl z _ (state_part b h) in (
-              r.0 ∙ use_write (λ (u : Use). given_back (length ds) σ (put v) (transfer b.part u) ds ≡ 1 ∷ 0 ∷ []) refl refl b.phase f,
-              r.2 ∙ use_write (λ (u : Use). bus_of (next (length ds) σ (put v) (transfer b.part u)) ≡ record { part = b.part; phase = 1 }) refl refl b.phase f,
+              r.0 ∙ use_write (λ (u : Use). given_back (length ds) σ (put v) (Transfer b.part u) ds ≡ 1 ∷ 0 ∷ []) refl refl b.phase f,
+              r.2 ∙ use_write (λ (u : Use). bus_of (next (length ds) σ (put v) (Transfer b.part u)) ≡ record { part = b.part; phase = 1 }) refl refl b.phase f,
             );
         read = λ z h f.
-            let r = served_by σ get b ds refl z (transfer b.part reading) (state_part b h ∙ rw f) in
+            let r = served_by σ get b ds refl z (Transfer b.part Reading) (state_part b h ∙ rw f) in
             (ap (λ (xs : List ℕ). get_or xs 0 0) r.0, r.2 ∙ ap (λ (p : ℕ). record { part = b.part; phase = p }) (sym f));
         given_idle = λ v z e f.
-            quiet (put v) refl z (byte_sound z).1 (if (eqb b.phase 0) idle unmatched) (state_free b e ∙ rw (ne_eqb b.phase 1 f))
-            (elim (eqb b.phase 0) as (λ t. Quiet (length ds) σ (put v) ds (if t idle unmatched)) [ true ↦ (refl, refl, refl) | false ↦ (refl, refl, refl) ]);
+            quiet (put v) refl z (byte_sound z).1 (if (eqb b.phase 0) Idle Unmatched) (state_free b e ∙ rw (ne_eqb b.phase 1 f))
+            (elim (eqb b.phase 0) as (λ t. Quiet (length ds) σ (put v) ds (if t Idle Unmatched)) [ true ↦ (refl, refl, refl) | false ↦ (refl, refl, refl) ]);
         given_in_read = λ v z h f.
-            quiet (put v) refl z (byte_sound z).1 (transfer b.part reading) (state_part b h ∙ rw f) (refl, set-get_or ds (b.part - 1) power_up, refl);
+            quiet (put v) refl z (byte_sound z).1 (Transfer b.part Reading) (state_part b h ∙ rw f) (refl, set-get_or ds (b.part - 1) power_up, refl);
         asked_none = λ z e.
             quiet get refl z (byte_sound z).1 _ (state_free b e)
             (free_all (Quiet (length ds) σ get ds) (refl, refl, refl) (refl, refl, refl) (refl, refl, refl) b.phase);
         asked_in_write = λ z h f.
             let same = set-get_or ds (b.part - 1) power_up in
             quiet get refl z (byte_sound z).1 _ (state_part b h)
-            (use_write (λ (u : Use). Quiet (length ds) σ get ds (transfer b.part u)) (refl, same, refl) (refl, same, refl) b.phase f);
+            (use_write (λ (u : Use). Quiet (length ds) σ get ds (Transfer b.part u)) (refl, same, refl) (refl, same, refl) b.phase f);
       }

@@ -11,7 +11,11 @@ use Rattle.calls.proofs.Records.{same_fitted}
 use Rattle.calls.proofs.Next.{same_shift}
 use Rattle.calls.proofs.Marks.{same_mark}
 use Rattle.bus.specs.declared.Bus.{Bus}
-use Rattle.bus.specs.States.{Use, command, writing, reading, State, idle, slave, unmatched, transfer, state_of}
+use Rattle.bus.specs.declared.Use.{Use}
+use Rattle.bus.specs.declared.Use.TheVariants.{Command, Writing, Reading}
+use Rattle.bus.specs.declared.State.{State}
+use Rattle.bus.specs.declared.State.TheVariants.{Idle, Slave, Unmatched, Transfer}
+use Rattle.bus.specs.States.{state_of}
 use Rattle.bus.specs.BusCalls.{BusCall, start, put, get, stop, give, ask}
 use Rattle.bus.specs.BusServed.{given, asked, served}
 use Rattle.bus.specs.BusOutcome.{number, bus_after, parts_after, reply}
@@ -24,14 +28,14 @@ module _ (f : Device → ℕ) (by_given : (u : Use) (v : ℕ) (d : Device) → f
   -- is as it was after a served call
   pub same_served : (q : BusCall) (s : State) (ds : List Device) → map f (served q s ds) ≡ map f ds
   same_served start s ds = refl
-  same_served (put v) idle ds = refl
-  same_served (put v) slave ds = refl
-  same_served (put v) unmatched ds = refl
-  same_served (put v) (transfer k u) ds = map-set_same f ds (k - 1) _ power_up (by_given u v (record_of ds k))
-  same_served get idle ds = refl
-  same_served get slave ds = refl
-  same_served get unmatched ds = refl
-  same_served get (transfer k u) ds = map-set_same f ds (k - 1) _ power_up (by_asked u (record_of ds k))
+  same_served (put v) Idle ds = refl
+  same_served (put v) Slave ds = refl
+  same_served (put v) Unmatched ds = refl
+  same_served (put v) (Transfer k u) ds = map-set_same f ds (k - 1) _ power_up (by_given u v (record_of ds k))
+  same_served get Idle ds = refl
+  same_served get Slave ds = refl
+  same_served get Unmatched ds = refl
+  same_served get (Transfer k u) ds = map-set_same f ds (k - 1) _ power_up (by_asked u (record_of ds k))
   same_served stop s ds = refl
   same_served (give j x) s ds = map-set_same f ds (j - 1) _ power_up (by_step x (record_of ds j))
   same_served (ask j x) s ds = refl
@@ -46,14 +50,14 @@ module _ (f : Device → ℕ) (by_given : (u : Use) (v : ℕ) (d : Device) → f
 
 -- a byte touches the registers and the command address alone
 given_same : {A : Type 0} (f : Device → A) → ((d : Device) (v : ℕ) → f (commanded d v) ≡ f d) → ((d : Device) (v : ℕ) → f (received d v) ≡ f d) → (u : Use) (v : ℕ) (d : Device) → f (given u v d) ≡ f d
-given_same f c r command v d = c d v
-given_same f c r writing v d = r d v
-given_same f c r reading v d = refl
+given_same f c r Command v d = c d v
+given_same f c r Writing v d = r d v
+given_same f c r Reading v d = refl
 
 asked_same : {A : Type 0} (f : Device → A) → ((d : Device) → f (sent d) ≡ f d) → (u : Use) (d : Device) → f (asked u d) ≡ f d
-asked_same f s command d = refl
-asked_same f s writing d = refl
-asked_same f s reading d = s d
+asked_same f s Command d = refl
+asked_same f s Writing d = refl
+asked_same f s Reading d = s d
 
 pub given_family : (u : Use) (v : ℕ) (d : Device) → (given u v d).family ≡ d.family
 unfolding commanded received

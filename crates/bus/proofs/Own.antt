@@ -9,7 +9,8 @@ use Rattle.calls.specs.Served.{record_of, with_record}
 use Rattle.calls.proofs.Accepted.{zero_says, driver_there}
 use Rattle.calls.proofs.Old.{below_at}
 use Rattle.bus.specs.Straps.{strap_of, place_of, distinct, seven_bits}
-use Rattle.bus.specs.States.{State, idle, slave, unmatched, transfer}
+use Rattle.bus.specs.declared.State.{State}
+use Rattle.bus.specs.declared.State.TheVariants.{Idle, Slave, Unmatched, Transfer}
 use Rattle.bus.specs.BusCalls.{BusCall, start, put, get, stop, give, ask}
 use Rattle.bus.specs.BusRefusals.{wire_refusal}
 use Rattle.bus.specs.BusServed.{slave_reply, served, given_back}
@@ -61,20 +62,20 @@ module _ (n i : ℕ) (fs σ rest : List ℕ) (sixteen : length σ ≡ 16) (h : 1
 
     put_own : (v : ℕ) (s : State) (qs : List BusCall) → accepted n fs σ (put v) ≡ true → names n fs σ i (turn_of i s) (put v ∷ qs) ≡ true → Own (put v) s (view i s) ds
     unfolding named
-    put_own v idle qs a e = absurd (true≢false (sym e))
-    put_own v slave qs a e =
+    put_own v Idle qs a e = absurd (true≢false (sym e))
+    put_own v Slave qs a e =
         let m = own_match n i fs σ rest sixteen h g v a (rw a at e) in
         record { left = refl; same = rw (m.0, m.1) (slave_reply_lem i h) }
-    put_own v unmatched qs a e = absurd (true≢false (sym e))
-    put_own v (transfer k u) qs a e =
+    put_own v Unmatched qs a e = absurd (true≢false (sym e))
+    put_own v (Transfer k u) qs a e =
         let p : k ≡ i = ours_says n fs σ k i (put v ∷ qs) e in
         record { left = rw (p, eq-eqb i i refl) (set_own _); same = rw (p, eq-eqb i i refl) }
 
     get_own : (s : State) (qs : List BusCall) → names n fs σ i (turn_of i s) (get ∷ qs) ≡ true → Own get s (view i s) ds
-    get_own idle qs e = absurd (true≢false (sym e))
-    get_own slave qs e = record { left = refl; same = refl }
-    get_own unmatched qs e = absurd (true≢false (sym e))
-    get_own (transfer k u) qs e =
+    get_own Idle qs e = absurd (true≢false (sym e))
+    get_own Slave qs e = record { left = refl; same = refl }
+    get_own Unmatched qs e = absurd (true≢false (sym e))
+    get_own (Transfer k u) qs e =
         let p : k ≡ i = ours_says n fs σ k i (get ∷ qs) e in
         record { left = rw (p, eq-eqb i i refl) (set_own _); same = rw (p, eq-eqb i i refl) }
 
@@ -98,14 +99,14 @@ module _ (n i : ℕ) (fs σ rest : List ℕ) (sixteen : length σ ≡ 16) (h : 1
     pub call_other : (q : BusCall) (s : State) (qs : List BusCall) → Named n s → accepted n fs σ q ≡ true → own n fs σ i (turn_of i s) q qs ≡ false
         → record_of (served q s ds) i ≡ record_of ds i
     call_other start s qs m a o = refl
-    call_other (put v) idle qs m a o = refl
-    call_other (put v) slave qs m a o = refl
-    call_other (put v) unmatched qs m a o = refl
-    call_other (put v) (transfer k u) qs m a o = set_other k _ m.0 (ours_not k (put v ∷ qs) o)
-    call_other get idle qs m a o = refl
-    call_other get slave qs m a o = refl
-    call_other get unmatched qs m a o = refl
-    call_other get (transfer k u) qs m a o = set_other k _ m.0 (ours_not k (get ∷ qs) o)
+    call_other (put v) Idle qs m a o = refl
+    call_other (put v) Slave qs m a o = refl
+    call_other (put v) Unmatched qs m a o = refl
+    call_other (put v) (Transfer k u) qs m a o = set_other k _ m.0 (ours_not k (put v ∷ qs) o)
+    call_other get Idle qs m a o = refl
+    call_other get Slave qs m a o = refl
+    call_other get Unmatched qs m a o = refl
+    call_other get (Transfer k u) qs m a o = set_other k _ m.0 (ours_not k (get ∷ qs) o)
     call_other stop s qs m a o = refl
     call_other (give j x) s qs m a o =
         set_other j _ (driver_there n j (zero_says n fs true 0 (give_chain j x) (eqb-true _ 0 a)).named).0 (eqb-false j i o)

@@ -11,7 +11,11 @@ use Rattle.calls.proofs.Records.{sound_at, sound_set, same_family, family_at_lem
 use Rattle.calls.proofs.Accepted.{zero_says}
 use Rattle.calls.proofs.Sound.{stepped_sound}
 use Rattle.bus.specs.declared.Bus.{Bus}
-use Rattle.bus.specs.States.{Use, command, writing, reading, State, idle, slave, unmatched, transfer, state_of}
+use Rattle.bus.specs.declared.Use.{Use}
+use Rattle.bus.specs.declared.Use.TheVariants.{Command, Writing, Reading}
+use Rattle.bus.specs.declared.State.{State}
+use Rattle.bus.specs.declared.State.TheVariants.{Idle, Slave, Unmatched, Transfer}
+use Rattle.bus.specs.States.{state_of}
 use Rattle.bus.specs.BusCalls.{BusCall, start, put, get, stop, give, ask}
 use Rattle.bus.specs.BusServed.{given, asked, served}
 use Rattle.bus.specs.BusOutcome.{bus_after, parts_after}
@@ -22,14 +26,14 @@ use Rattle.bus.proofs.Kept.{same_served, given_family, asked_family}
 use Rattle.bus.proofs.Accepted.{Sound, parts_by, bus_kept}
 
 given_sound : (u : Use) (v : ℕ) (d : Device) → sound_record d ≡ true → sound_record (given u v d) ≡ true
-given_sound command v d e = both_families.sound.after_commanded d v e
-given_sound writing v d e = both_families.sound.after_received d v e
-given_sound reading v d e = e
+given_sound Command v d e = both_families.sound.after_commanded d v e
+given_sound Writing v d e = both_families.sound.after_received d v e
+given_sound Reading v d e = e
 
 asked_sound : (u : Use) (d : Device) → sound_record d ≡ true → sound_record (asked u d) ≡ true
-asked_sound command d e = e
-asked_sound writing d e = e
-asked_sound reading d e = both_families.sound.after_sent d e
+asked_sound Command d e = e
+asked_sound Writing d e = e
+asked_sound Reading d e = both_families.sound.after_sent d e
 
 -- a served call leaves as many records as it found, all sound
 module _ {n : ℕ} {fs : List ℕ} (σ : List ℕ) (ds : List Device) (l : length ds ≡ n) (kinds : families ds ≡ fs) (e : all_sound ds ≡ true) where
@@ -38,14 +42,14 @@ module _ {n : ℕ} {fs : List ℕ} (σ : List ℕ) (ds : List Device) (l : lengt
 
   served_sound : (q : BusCall) (s : State) → accepted n fs σ q ≡ true → (length (served q s ds) ≡ n) × (all_sound (served q s ds) ≡ true)
   served_sound start s a = (l, e)
-  served_sound (put v) idle a = (l, e)
-  served_sound (put v) slave a = (l, e)
-  served_sound (put v) unmatched a = (l, e)
-  served_sound (put v) (transfer k u) a = set_sound k _ (given_sound u v (record_of ds k) (sound_at ds e (k - 1)))
-  served_sound get idle a = (l, e)
-  served_sound get slave a = (l, e)
-  served_sound get unmatched a = (l, e)
-  served_sound get (transfer k u) a = set_sound k _ (asked_sound u (record_of ds k) (sound_at ds e (k - 1)))
+  served_sound (put v) Idle a = (l, e)
+  served_sound (put v) Slave a = (l, e)
+  served_sound (put v) Unmatched a = (l, e)
+  served_sound (put v) (Transfer k u) a = set_sound k _ (given_sound u v (record_of ds k) (sound_at ds e (k - 1)))
+  served_sound get Idle a = (l, e)
+  served_sound get Slave a = (l, e)
+  served_sound get Unmatched a = (l, e)
+  served_sound get (Transfer k u) a = set_sound k _ (asked_sound u (record_of ds k) (sound_at ds e (k - 1)))
   served_sound stop s a = (l, e)
   served_sound (give j x) s a =
       set_sound j _ (stepped_sound x (record_of ds j) (rw (← kinds, family_at_lem) at (zero_says n fs true 0 (give_chain j x) (eqb-true _ 0 a)).argument) (sound_at ds e (j - 1)))

@@ -3,7 +3,9 @@
 use Rattle.ground.proofs.Names.{ℕ, zero, suc, ◌≤◌, arith, not-suc-le-zero, Bool, true, false, true≢false, List, ◌∷◌, ◌≡◌, refl, sym, ◌∙◌, eqb, leb, ltb, length, eqb-true, eq-eqb, ne_eqb, if, and_right}
 use Rattle.bus.specs.declared.Bus.{Bus}
 use Rattle.bus.specs.Straps.{strap_of, matched}
-use Rattle.bus.specs.States.{State, idle, slave, unmatched, transfer, free_at, use_at, state_of, sound_bus}
+use Rattle.bus.specs.declared.State.{State}
+use Rattle.bus.specs.declared.State.TheVariants.{Idle, Slave, Unmatched, Transfer}
+use Rattle.bus.specs.States.{free_at, use_at, state_of, sound_bus}
 use Rattle.bus.specs.BusCalls.{BusCall, start, put, get, stop, give, ask}
 use Rattle.bus.specs.BusServed.{opened, next}
 use Rattle.bus.specs.BusIsolation.{accepted, Turn, closed, fresh, ours, turn_at, names_part, turn_next, named, names, view_of}
@@ -13,42 +15,42 @@ use Rattle.bus.proofs.Accepted.{wire_served}
 
 -- what a state is to part i, and to the lone bus
 abbrev pub turn_of : ℕ → State → Turn
-turn_of i idle = closed
-turn_of i slave = fresh
-turn_of i unmatched = closed
-turn_of i (transfer k u) = if (eqb k i) ours closed
+turn_of i Idle = closed
+turn_of i Slave = fresh
+turn_of i Unmatched = closed
+turn_of i (Transfer k u) = if (eqb k i) ours closed
 
 abbrev pub view : ℕ → State → State
-view i idle = idle
-view i slave = slave
-view i unmatched = unmatched
-view i (transfer k u) = if (eqb k i) (transfer 1 u) idle
+view i Idle = Idle
+view i Slave = Slave
+view i Unmatched = Unmatched
+view i (Transfer k u) = if (eqb k i) (Transfer 1 u) Idle
 
 -- a bus state's turn and view are those of what it stands for
 turn_free : (i p : ℕ) → if (eqb p 1) fresh closed ≡ turn_of i (free_at p)
 turn_free i p = go (eqb p 0) refl
   where
-    go : (t : Bool) → eqb p 0 ≡ t → if (eqb p 1) fresh closed ≡ turn_of i (if t idle (if (eqb p 1) slave unmatched))
+    go : (t : Bool) → eqb p 0 ≡ t → if (eqb p 1) fresh closed ≡ turn_of i (if t Idle (if (eqb p 1) Slave Unmatched))
     go true e = rw (eqb-true p 0 e)
-    go false e = elim (eqb p 1) as (λ t. if t fresh closed ≡ turn_of i (if t slave unmatched)) [ true ↦ refl | false ↦ refl ]
+    go false e = elim (eqb p 1) as (λ t. if t fresh closed ≡ turn_of i (if t Slave Unmatched)) [ true ↦ refl | false ↦ refl ]
 
 pub turn_state : (i : ℕ) (b : Bus) → turn_at i b ≡ turn_of i (state_of b)
 turn_state i b = go (eqb b.part 0)
   where
-    go : (t : Bool) → if t (if (eqb b.phase 1) fresh closed) (if (eqb b.part i) ours closed) ≡ turn_of i (if t (free_at b.phase) (transfer b.part (use_at b.phase)))
+    go : (t : Bool) → if t (if (eqb b.phase 1) fresh closed) (if (eqb b.part i) ours closed) ≡ turn_of i (if t (free_at b.phase) (Transfer b.part (use_at b.phase)))
     go true = turn_free i b.phase
     go false = refl
 
 pub view_state : (i : ℕ) (b : Bus) → state_of (view_of i b) ≡ view i (state_of b)
 view_state i b = go (eqb b.part 0) refl
   where
-    inner : (t : Bool) → state_of (if t (record { part = 1; phase = b.phase }) (record { part = 0; phase = 0 })) ≡ if t (transfer 1 (use_at b.phase)) idle
+    inner : (t : Bool) → state_of (if t (record { part = 1; phase = b.phase }) (record { part = 0; phase = 0 })) ≡ if t (Transfer 1 (use_at b.phase)) Idle
     inner true = refl
     inner false = refl
 
     go : (t : Bool) → eqb b.part 0 ≡ t
         → state_of (if t b (if (eqb b.part i) (record { part = 1; phase = b.phase }) (record { part = 0; phase = 0 })))
-        ≡ view i (if t (free_at b.phase) (transfer b.part (use_at b.phase)))
+        ≡ view i (if t (free_at b.phase) (Transfer b.part (use_at b.phase)))
     go true e = rw e (free_all (λ s. s ≡ view i s) refl refl refl b.phase)
     go false e = inner (eqb b.part i)
 
@@ -109,10 +111,10 @@ module _ (n i : ℕ) (fs σ rest : List ℕ) (sixteen : length σ ≡ 16) (h : 1
   -- the tracker follows the table
   pub turn_follows : (q : BusCall) (s : State) → accepted n fs σ q ≡ true → turn_of i (next n σ q s) ≡ turn_next σ i q (turn_of i s)
   turn_follows start s a = refl
-  turn_follows (put v) idle a = refl
-  turn_follows (put v) slave a = opened_turn i (matched n σ v) v h ∙ rw (match_own sixteen (wire_served n fs σ a) v i h g)
-  turn_follows (put v) unmatched a = refl
-  turn_follows (put v) (transfer k u) a =
+  turn_follows (put v) Idle a = refl
+  turn_follows (put v) Slave a = opened_turn i (matched n σ v) v h ∙ rw (match_own sixteen (wire_served n fs σ a) v i h g)
+  turn_follows (put v) Unmatched a = refl
+  turn_follows (put v) (Transfer k u) a =
       elim (eqb k i) as (λ t. if t ours closed ≡ turn_next σ i (put v) (if t ours closed)) [ true ↦ refl | false ↦ refl ]
   turn_follows get s a = refl
   turn_follows stop s a = refl
@@ -123,9 +125,9 @@ module _ (n i : ℕ) (fs σ rest : List ℕ) (sixteen : length σ ≡ 16) (h : 1
   pub put_view : (v : ℕ) (s : State) (qs : List BusCall) → accepted n fs σ (put v) ≡ true → names n fs σ i (turn_of i s) (put v ∷ qs) ≡ true
       → next 1 (strap_of σ i ∷ rest) (put v) (view i s) ≡ view i (next n σ (put v) s)
   unfolding named
-  put_view v idle qs a e = absurd (true≢false (sym e))
-  put_view v slave qs a e =
+  put_view v Idle qs a e = absurd (true≢false (sym e))
+  put_view v Slave qs a e =
       let m = own_match v a (rw a at e) in
       rw (m.0, m.1) (opened_view i v h)
-  put_view v unmatched qs a e = absurd (true≢false (sym e))
-  put_view v (transfer k u) qs a e = rw (ours_says n fs σ k i (put v ∷ qs) e, eq-eqb i i refl)
+  put_view v Unmatched qs a e = absurd (true≢false (sym e))
+  put_view v (Transfer k u) qs a e = rw (ours_says n fs σ k i (put v ∷ qs) e, eq-eqb i i refl)

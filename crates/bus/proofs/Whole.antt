@@ -15,7 +15,11 @@ use Rattle.calls.proofs.Records.{sound_at, sound_set, family_at_lem}
 use Rattle.calls.proofs.Old.{below_at}
 use Rattle.bus.specs.declared.Bus.{Bus}
 use Rattle.bus.specs.Straps.{strap_of}
-use Rattle.bus.specs.States.{Use, command, writing, reading, State, idle, slave, transfer, state_of, bus_of, sound_bus}
+use Rattle.bus.specs.declared.Use.{Use}
+use Rattle.bus.specs.declared.Use.TheVariants.{Command, Writing, Reading}
+use Rattle.bus.specs.declared.State.{State}
+use Rattle.bus.specs.declared.State.TheVariants.{Idle, Slave, Transfer}
+use Rattle.bus.specs.States.{state_of, bus_of, sound_bus}
 use Rattle.device.specs.TwoWire.{next_address, commanded, received, sent_data, sent}
 use Rattle.bus.specs.BusCalls.{BusCall, start, put, get, stop}
 use Rattle.bus.specs.BusRefusals.{wire_refusal}
@@ -69,70 +73,70 @@ module _ (n k : ℕ) (fs σ : List ℕ) (sixteen : length σ ≡ 16) (h : 1 ≤ 
   module _ (ds : List Device) (l : length ds ≡ n) (kinds : families ds ≡ fs) (z : all_sound ds ≡ true) where
     -- a call in part k's transfer, where its record is y
     use_run : (q : BusCall) → accepted n fs σ q ≡ true → (u : Use) (y : Device) → y.family ≡ (record_of ds k).family → sound_record y ≡ true
-        → {qs : List BusCall} {b' : Bus} {ds₁ ds' : List Device} {rs : List (List ℕ)} {r : List ℕ} → Ran σ qs (bus_of (next n σ q (transfer k u))) ds₁ b' ds' rs
-        → served q (transfer k u) (with_record ds k y) ≡ ds₁ → given_back n σ q (transfer k u) (with_record ds k y) ≡ r
-        → Ran σ (q ∷ qs) (bus_of (transfer k u)) (with_record ds k y) b' ds' (r ∷ rs)
+        → {qs : List BusCall} {b' : Bus} {ds₁ ds' : List Device} {rs : List (List ℕ)} {r : List ℕ} → Ran σ qs (bus_of (next n σ q (Transfer k u))) ds₁ b' ds' rs
+        → served q (Transfer k u) (with_record ds k y) ≡ ds₁ → given_back n σ q (Transfer k u) (with_record ds k y) ≡ r
+        → Ran σ (q ∷ qs) (bus_of (Transfer k u)) (with_record ds k y) b' ds' (r ∷ rs)
     use_run q a u y f s =
         run_step q a
-        (record { count = length-set ds (k - 1) y ∙ l; kinds = map-set_same (λ (x : Device). x.family) ds (k - 1) y power_up f ∙ kinds; records = sound_set ds (k - 1) y z s; bus = bus_sound n (transfer k u) (h, g) })
-        (transfer k u) (state_bus n (transfer k u) (h, g))
+        (record { count = length-set ds (k - 1) y ∙ l; kinds = map-set_same (λ (x : Device). x.family) ds (k - 1) y power_up f ∙ kinds; records = sound_set ds (k - 1) y z s; bus = bus_sound n (Transfer k u) (h, g) })
+        (Transfer k u) (state_bus n (Transfer k u) (h, g))
 
-    stopped : (u : Use) (y : Device) → y.family ≡ (record_of ds k).family → sound_record y ≡ true → Ran σ (stop ∷ []) (bus_of (transfer k u)) (with_record ds k y) (bus_of idle) (with_record ds k y) ([] ∷ [])
-    stopped u y f s = use_run stop (rw wire) u y f s (run_none σ (bus_of idle) (with_record ds k y)) refl refl
+    stopped : (u : Use) (y : Device) → y.family ≡ (record_of ds k).family → sound_record y ≡ true → Ran σ (stop ∷ []) (bus_of (Transfer k u)) (with_record ds k y) (bus_of Idle) (with_record ds k y) ([] ∷ [])
+    stopped u y f s = use_run stop (rw wire) u y f s (run_none σ (bus_of Idle) (with_record ds k y)) refl refl
 
     own : (y : Device) → record_of (with_record ds k y) k ≡ y
     own y = get_or-set_same ds (k - 1) y power_up (omega arith)
 
     -- data bytes from address a on, and the stop
     write_run : (vs : List ℕ) (x : Device) (a : ℕ) → x.family ≡ (record_of ds k).family → sound_record (with_command x (min a 127)) ≡ true
-        → Ran σ (map put vs ++ stop ∷ []) (bus_of (transfer k writing)) (with_record ds k (with_command x (min a 127))) (bus_of idle)
+        → Ran σ (map put vs ++ stop ∷ []) (bus_of (Transfer k Writing)) (with_record ds k (with_command x (min a 127))) (bus_of Idle)
         (with_record ds k (with_command (with_registers x (stored x.registers a vs)) (min (a + length vs) 127)))
         (map (λ (v : ℕ). 1 ∷ 0 ∷ []) vs ++ [] ∷ [])
     unfolding received
-    write_run [] x a f s = rw add-zero (stopped writing (with_command x (min a 127)) f s)
+    write_run [] x a f s = rw add-zero (stopped Writing (with_command x (min a 127)) f s)
     write_run (v ∷ vs) x a f s =
         let e : a + suc (length vs) ≡ a + 1 + length vs = omega arith in
         let y = with_command x (min a 127) in
         let x' = with_registers x (written x.registers (written_at (min a 127)) v) in
         let more = write_run vs x' (a + 1) f (rw (next_min a) at (both_families.sound.after_received y v s)) in
-        rw e (use_run (put v) (rw wire) writing y f s more (rw (own y, set-set ds (k - 1) y (received y v), next_min a)) refl)
+        rw e (use_run (put v) (rw wire) Writing y f s more (rw (own y, set-set ds (k - 1) y (received y v), next_min a)) refl)
 
     -- bytes asked for, and the stop
     read_run : (m : ℕ) (x : Device) (a : ℕ) → x.family ≡ (record_of ds k).family → sound_record (with_command x (min a 127)) ≡ true
-        → Ran σ (replicate m get ++ stop ∷ []) (bus_of (transfer k reading)) (with_record ds k (with_command x (min a 127))) (bus_of idle)
+        → Ran σ (replicate m get ++ stop ∷ []) (bus_of (Transfer k Reading)) (with_record ds k (with_command x (min a 127))) (bus_of Idle)
         (with_record ds k (with_command (with_registers x (read_left x.registers a m)) (min (a + m) 127)))
         (map (λ (v : ℕ). 1 ∷ v ∷ []) (read_data x.registers a m) ++ [] ∷ [])
     unfolding sent sent_data
-    read_run zero x a f s = rw add-zero (stopped reading (with_command x (min a 127)) f s)
+    read_run zero x a f s = rw add-zero (stopped Reading (with_command x (min a 127)) f s)
     read_run (suc m) x a f s =
         let e : a + suc m ≡ a + 1 + m = omega arith in
         let y = with_command x (min a 127) in
         let x' = with_registers x (after_read x.registers (read_at (min a 127))) in
         let more = read_run m x' (a + 1) f (rw (next_min a) at (both_families.sound.after_sent y s)) in
-        rw e (use_run get (rw wire) reading y f s more (rw (own y, set-set ds (k - 1) y (sent y), next_min a)) (rw (own y)))
+        rw e (use_run get (rw wire) Reading y f s more (rw (own y, set-set ds (k - 1) y (sent y), next_min a)) (rw (own y)))
 
     -- a command byte, and a write
     command_run : (a : ℕ) (vs : List ℕ)
-        → Ran σ (put a ∷ map put vs ++ stop ∷ []) (bus_of (transfer k command)) ds (bus_of idle)
+        → Ran σ (put a ∷ map put vs ++ stop ∷ []) (bus_of (Transfer k Command)) ds (bus_of Idle)
         (with_record ds k (with_command (with_registers (record_of ds k) (stored (record_of ds k).registers (a % 128) vs)) (min (a % 128 + length vs) 127)))
         ((1 ∷ 0 ∷ []) ∷ map (λ (v : ℕ). 1 ∷ 0 ∷ []) vs ++ [] ∷ [])
     unfolding commanded
     command_run a vs =
         let d = record_of ds k in
         let e : min (a % 128) 127 ≡ a % 128 = omega (arith, mod-lt a {m = 128} (omega arith)) in
-        run_step (put a) (rw wire) (record { count = l; kinds = kinds; records = z; bus = bus_sound n (transfer k command) (h, g) })
-        (transfer k command) (state_bus n (transfer k command) (h, g))
+        run_step (put a) (rw wire) (record { count = l; kinds = kinds; records = z; bus = bus_sound n (Transfer k Command) (h, g) })
+        (Transfer k Command) (state_bus n (Transfer k Command) (h, g))
         (write_run vs d (a % 128) refl (rw e (both_families.sound.after_commanded d a (sound_at ds z (k - 1))))) (rw e) refl
 
     -- a start, and part k's slave byte
     open_run : (v : ℕ) → strap_of σ k ≡ v / 2 → (qs : List BusCall) (b : Bus) {b' : Bus} {ds' : List Device} {rs : List (List ℕ)} → sound_bus n b ≡ true
-        → Ran σ qs (bus_of (transfer k (if (odd v) reading command))) ds b' ds' rs
+        → Ran σ qs (bus_of (Transfer k (if (odd v) Reading Command))) ds b' ds' rs
         → Ran σ (start ∷ put v ∷ qs) b ds b' ds' ([] ∷ (1 ∷ 0 ∷ []) ∷ rs)
     open_run v e qs b f ran =
         let m = matches sixteen w v k h g e in
         let o = slave_taken k v h in
         run_step start (rw wire) (record { count = l; kinds = kinds; records = z; bus = f }) (state_of b) refl
-        (run_step (put v) (rw wire) (record { count = l; kinds = kinds; records = z; bus = bus_sound n slave tt }) slave refl (rw (m, o.0) ran) refl (rw m o.1)) refl refl
+        (run_step (put v) (rw wire) (record { count = l; kinds = kinds; records = z; bus = bus_sound n Slave tt }) Slave refl (rw (m, o.0) ran) refl (rw m o.1)) refl refl
 
     transactions : (b : Bus) → sound_bus n b ≡ true → Transaction σ b ds k
     transactions b f =

@@ -8,7 +8,8 @@ use Rattle.device.specs.declared.Device.{Device}
 use Rattle.calls.specs.Calls.{scan}
 use Rattle.calls.specs.Served.{record_of}
 use Rattle.bus.specs.declared.Bus.{Bus}
-use Rattle.bus.specs.States.{idle, bus_of}
+use Rattle.bus.specs.declared.State.TheVariants.{Idle}
+use Rattle.bus.specs.States.{bus_of}
 use Rattle.bus.specs.BusCalls.{BusCall, start, put, get, stop, give}
 use Rattle.bus.specs.BusOutcome.{number}
 use Rattle.bus.specs.BusLists.{bus_all, parts_all, replies}
@@ -37,15 +38,15 @@ answers ((a ∷ ds) ∷ rs) = (a * 256 + get_or ds 0 0) ∷ answers rs
 
 -- the answers to the bytes of calls on n parts, from power-up and an idle bus
 abbrev pub answered : List ℕ → ℕ → List BusCall → List ℕ
-answered σ n qs = answers (replies σ qs (bus_of idle) (fresh_chain n))
+answered σ n qs = answers (replies σ qs (bus_of Idle) (fresh_chain n))
 
 -- part k's record after such calls
 abbrev pub part : List ℕ → ℕ → List BusCall → ℕ → Device
-part σ n qs k = record_of (parts_all σ qs (bus_of idle) (fresh_chain n)) k
+part σ n qs k = record_of (parts_all σ qs (bus_of Idle) (fresh_chain n)) k
 
 -- the bus state after them: part and phase
 abbrev pub bus : List ℕ → ℕ → List BusCall → List ℕ
-bus σ n qs = (bus_all σ qs (bus_of idle) (fresh_chain n)).part ∷ (bus_all σ qs (bus_of idle) (fresh_chain n)).phase ∷ []
+bus σ n qs = (bus_all σ qs (bus_of Idle) (fresh_chain n)).part ∷ (bus_all σ qs (bus_of Idle) (fresh_chain n)).phase ∷ []
 
 -- one part, address 0x60, Table 5's first row
 abbrev pub one : List ℕ
@@ -156,35 +157,35 @@ rows =
 abbrev pub strap_rows : List (List ℕ × List ℕ)
 strap_rows =
     -- 11: numbers: 10 two parts with one address, neighbours or not, also above 127; 11 an address above 127
-    (numbers_of (straps (0x60 ∷ 0x60 ∷ [])) (bus_of idle) (fresh_chain 2), 10 ∷ 10 ∷ 10 ∷ 10 ∷ [])
-    ∷ (numbers_of (straps (0x60 ∷ 0x61 ∷ 0x60 ∷ [])) (bus_of idle) (fresh_chain 3), 10 ∷ 10 ∷ 10 ∷ 10 ∷ [])
-    ∷ (numbers_of (straps (0xC8 ∷ 0xC8 ∷ [])) (bus_of idle) (fresh_chain 2), 10 ∷ 10 ∷ 10 ∷ 10 ∷ [])
-    ∷ (numbers_of (straps (0x60 ∷ 0xE0 ∷ [])) (bus_of idle) (fresh_chain 2), 11 ∷ 11 ∷ 11 ∷ 11 ∷ [])
-    ∷ (numbers_of (straps (0x7F ∷ [])) (bus_of idle) (fresh_chain 1), 0 ∷ 0 ∷ 0 ∷ 0 ∷ [])
-    ∷ (numbers_of (straps (0x80 ∷ [])) (bus_of idle) (fresh_chain 1), 11 ∷ 11 ∷ 11 ∷ 11 ∷ [])
+    (numbers_of (straps (0x60 ∷ 0x60 ∷ [])) (bus_of Idle) (fresh_chain 2), 10 ∷ 10 ∷ 10 ∷ 10 ∷ [])
+    ∷ (numbers_of (straps (0x60 ∷ 0x61 ∷ 0x60 ∷ [])) (bus_of Idle) (fresh_chain 3), 10 ∷ 10 ∷ 10 ∷ 10 ∷ [])
+    ∷ (numbers_of (straps (0xC8 ∷ 0xC8 ∷ [])) (bus_of Idle) (fresh_chain 2), 10 ∷ 10 ∷ 10 ∷ 10 ∷ [])
+    ∷ (numbers_of (straps (0x60 ∷ 0xE0 ∷ [])) (bus_of Idle) (fresh_chain 2), 11 ∷ 11 ∷ 11 ∷ 11 ∷ [])
+    ∷ (numbers_of (straps (0x7F ∷ [])) (bus_of Idle) (fresh_chain 1), 0 ∷ 0 ∷ 0 ∷ 0 ∷ [])
+    ∷ (numbers_of (straps (0x80 ∷ [])) (bus_of Idle) (fresh_chain 1), 11 ∷ 11 ∷ 11 ∷ 11 ∷ [])
     -- the first n straps count
-    ∷ (numbers_of (0x60 ∷ 0x60 ∷ 0xFF ∷ replicate 13 0xFF) (bus_of idle) (fresh_chain 1), 0 ∷ 0 ∷ 0 ∷ 0 ∷ [])
+    ∷ (numbers_of (0x60 ∷ 0x60 ∷ 0xFF ∷ replicate 13 0xFF) (bus_of Idle) (fresh_chain 1), 0 ∷ 0 ∷ 0 ∷ 0 ∷ [])
     ∷ []
 
 -- and by the records and the bus state
 abbrev pub number_rows : List (List ℕ × List ℕ)
 number_rows =
     (numbers_of (straps (0x60 ∷ 0x61 ∷ [])) (record { part = 3; phase = 1 }) (fresh_chain 2), 7 ∷ 7 ∷ 7 ∷ 7 ∷ [])
-    ∷ (numbers_of (straps (0x60 ∷ 0x61 ∷ [])) (bus_of idle) (fresh_chain 0), 1 ∷ 1 ∷ 1 ∷ 1 ∷ [])
-    ∷ (numbers_of (straps (0x60 ∷ 0x61 ∷ [])) (bus_of idle) (fresh_chain 17), 1 ∷ 1 ∷ 1 ∷ 1 ∷ [])
+    ∷ (numbers_of (straps (0x60 ∷ 0x61 ∷ [])) (bus_of Idle) (fresh_chain 0), 1 ∷ 1 ∷ 1 ∷ 1 ∷ [])
+    ∷ (numbers_of (straps (0x60 ∷ 0x61 ∷ [])) (bus_of Idle) (fresh_chain 17), 1 ∷ 1 ∷ 1 ∷ 1 ∷ [])
     ∷ (numbers_of (straps (0x60 ∷ 0x61 ∷ [])) (record { part = 0; phase = 3 }) (fresh_chain 2), 7 ∷ 7 ∷ 7 ∷ 7 ∷ [])
     -- a phase above 2, where a part is named too
     ∷ (numbers_of (straps (0x60 ∷ 0x61 ∷ [])) (record { part = 1; phase = 3 }) (fresh_chain 2), 7 ∷ 7 ∷ 7 ∷ 7 ∷ [])
     -- the lowest that applies: 1 and 7, 7 and 10; a record whose command address is 128 isn't sound
     ∷ (numbers_of (straps (0x60 ∷ 0x61 ∷ [])) (record { part = 1; phase = 1 }) [], 1 ∷ 1 ∷ 1 ∷ 1 ∷ [])
     ∷ (numbers_of (straps (0x60 ∷ 0x60 ∷ [])) (record { part = 3; phase = 1 }) (fresh_chain 2), 7 ∷ 7 ∷ 7 ∷ 7 ∷ [])
-    ∷ (numbers_of one (bus_of idle) (with_command power_up 127 ∷ []), 0 ∷ 0 ∷ 0 ∷ 0 ∷ [])
-    ∷ (numbers_of one (bus_of idle) (with_command power_up 128 ∷ []), 7 ∷ 7 ∷ 7 ∷ 7 ∷ [])
+    ∷ (numbers_of one (bus_of Idle) (with_command power_up 127 ∷ []), 0 ∷ 0 ∷ 0 ∷ 0 ∷ [])
+    ∷ (numbers_of one (bus_of Idle) (with_command power_up 128 ∷ []), 7 ∷ 7 ∷ 7 ∷ 7 ∷ [])
     -- request 8: 14 where any part is a MAX6957, or of an unknown family; after 7, 10 and 11
-    ∷ (numbers_of (straps (0x60 ∷ 0x61 ∷ [])) (bus_of idle) (power_up ∷ power_up6957 ∷ []), 14 ∷ 14 ∷ 14 ∷ 14 ∷ [])
-    ∷ (numbers_of (straps (0x60 ∷ 0x61 ∷ [])) (bus_of idle) (with_family power_up 2 ∷ power_up ∷ []), 14 ∷ 14 ∷ 14 ∷ 14 ∷ [])
-    ∷ (numbers_of (straps (0x60 ∷ 0x60 ∷ [])) (bus_of idle) (power_up ∷ power_up6957 ∷ []), 10 ∷ 10 ∷ 10 ∷ 10 ∷ [])
-    ∷ (numbers_of (straps (0x60 ∷ 0xE0 ∷ [])) (bus_of idle) (power_up ∷ power_up6957 ∷ []), 11 ∷ 11 ∷ 11 ∷ 11 ∷ [])
+    ∷ (numbers_of (straps (0x60 ∷ 0x61 ∷ [])) (bus_of Idle) (power_up ∷ power_up6957 ∷ []), 14 ∷ 14 ∷ 14 ∷ 14 ∷ [])
+    ∷ (numbers_of (straps (0x60 ∷ 0x61 ∷ [])) (bus_of Idle) (with_family power_up 2 ∷ power_up ∷ []), 14 ∷ 14 ∷ 14 ∷ 14 ∷ [])
+    ∷ (numbers_of (straps (0x60 ∷ 0x60 ∷ [])) (bus_of Idle) (power_up ∷ power_up6957 ∷ []), 10 ∷ 10 ∷ 10 ∷ 10 ∷ [])
+    ∷ (numbers_of (straps (0x60 ∷ 0xE0 ∷ [])) (bus_of Idle) (power_up ∷ power_up6957 ∷ []), 11 ∷ 11 ∷ 11 ∷ 11 ∷ [])
     ∷ (numbers_of (straps (0x60 ∷ 0x61 ∷ [])) (record { part = 3; phase = 1 }) (power_up ∷ power_up6957 ∷ []), 7 ∷ 7 ∷ 7 ∷ 7 ∷ [])
     ∷ []
 

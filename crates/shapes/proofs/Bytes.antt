@@ -1,26 +1,24 @@
 -- A byte on the two-wire bus that reaches an open transfer: its part is one of the row, so it doesn't matter what a read past the row's end gives.
---     Open         the part, and its record
---     opened
+--     part_there         the part's place
+--     part_outcome       the outcome, by the part's record
 -- Assumes nothing.
-use Rattle.ground.proofs.Names.{ℕ, ◌-◌, ◌<◌, arith, List, ◌≡◌, ap, ◌∙◌, length, get_or}
+use Rattle.std.specs.Prelude.{Some}
+use Rattle.ground.proofs.Names.{ℕ, ◌-◌, ◌<◌, arith, List, ◌≡◌, length, get_or, set}
 use Rattle.device.specs.PowerUp.{power_up}
 use Rattle.device.specs.declared.Device.{Device}
 use Rattle.bus.specs.declared.Bus.{Bus}
+use Rattle.bus.specs.States.{use_at}
+use Rattle.bus.specs.BusOutcome.{bus_outcome}
 use Rattle.pass.specs.Found.{row_refusal}
-use Rattle.transfers.specs.Transfers.{part_open}
-use Rattle.transfers.proofs.BusLaws.{Reached, reached}
+use Rattle.transfers.specs.Transfers.{named, part_open, byte_open, byte_left, byte_call}
+use Rattle.transfers.specs.declared.Byte.{Byte}
+use Rattle.transfers.proofs.BusLaws.{answered_to, reached, open_outcome}
 use Rattle.lent.proofs.Passed.{default}
 
-pub record Open (ds : List Device) (b : Bus) (σ : List ℕ) (part : ℕ) : Type 0 where
-  pub reached : Reached ds b σ
-  pub named : part ≡ b.part
-  pub there : part - 1 < length ds
-  pub same : (d : Device) → get_or ds (part - 1) d ≡ get_or ds (b.part - 1) power_up
+module _ (ds : List Device) (b : Bus) (σ : List ℕ) {part : ℕ} (h : Some part ≡ named (part_open (row_refusal ds) (length ds) b σ)) where
+  pub part_there : part - 1 < length ds
+  part_there = let r = reached ds b σ h in omega (arith, r.some, r.there, r.same)
 
-pub opened : (ds : List Device) (b : Bus) (σ : List ℕ) {early part : ℕ} → early ≡ row_refusal ds → part ≡ part_open early (length ds) b σ → (part ≡ 0 → ⊥) → Open ds b σ part
-opened ds b σ {early} {part} e p h =
-    let q : part ≡ part_open (row_refusal ds) (length ds) b σ = rw e at p in
-    let r = reached ds b σ (λ z. h (q ∙ z)) in
-    let k : part ≡ b.part = q ∙ r.named in
-    let l : part - 1 < length ds = omega (arith, r.some, r.there, k) in
-    record { reached = r; named = k; there = l; same = λ d. default d power_up ds (part - 1) l ∙ ap (λ (m : ℕ). get_or ds (m - 1) power_up) k }
+  pub part_outcome : (y : Byte) (d : Device)
+      → bus_outcome σ (byte_call y) b ds ≡ answered_to (byte_open y (get_or ds (part - 1) d) b) (set ds (part - 1) (byte_left y (use_at b.phase) (get_or ds (part - 1) d)))
+  part_outcome y d = let r = reached ds b σ h in rw (default d power_up ds (part - 1) part_there, r.same) (open_outcome ds b σ y r)

@@ -1,23 +1,19 @@
 -- Auxiliary: a call on the two-wire bus by value, from the number that its records give. `bus_outcome` of `bus` is what is believed.
 -- Assumes nothing.
-use Rattle.std.specs.Prelude.{ℕ, Bool, List, [], ◌∷◌, eqb, ltb, get_or, take, drop}
+use Rattle.std.specs.Prelude.{ℕ, zero, suc, List, [], ◌∷◌, Option, None, Some, eqb, get_or, take}
 use Rattle.ground.specs.Choice.{if}
 use Rattle.refusals.specs.Refusals.{sound_refusal, clash_refusal, address_refusal, first_of}
 use Rattle.device.specs.declared.Device.{Device}
 use Rattle.bus.specs.declared.Bus.{Bus}
-use Rattle.bus.specs.Straps.{place_of, matched, distinct, seven_bits}
+use Rattle.bus.specs.Straps.{matched, distinct, seven_bits}
+use Rattle.bus.specs.declared.Use.{Use}
 use Rattle.bus.specs.States.{use_at, state_of, bus_of, sound_bus}
-use Rattle.bus.specs.BusServed.{put_state, nobody, put_reply, asked_reply}
+use Rattle.bus.specs.BusCalls.{BusCall, put, get}
+use Rattle.bus.specs.BusServed.{put_state, given, asked, nobody, put_reply, asked_reply}
 use Rattle.transfers.specs.declared.BusAnswer.{BusAnswer}
 use Rattle.transfers.specs.declared.ByteAnswer.{ByteAnswer}
-
--- n straps, or all sixteen
-abbrev pub few : ℕ → ℕ
-few n = if (ltb n 16) n 16
-
--- no number from place i on, of the first n, is a
-abbrev pub later_none : ℕ → List ℕ → ℕ → ℕ → Bool
-later_none n σ a i = eqb (place_of a (drop i (take n σ))) 0
+use Rattle.transfers.specs.declared.Byte.{Byte}
+use Rattle.transfers.specs.declared.Byte.TheVariants.{Given, Asked}
 
 -- the number of a start, a byte or a stop, where early is that of the records
 -- (14, of the records' families, comes after 7 of the bus state, 10 and 11)
@@ -32,6 +28,21 @@ moved k b left = record { number = k; bus = if (eqb k 0) left b }
 -- the part whose open transfer a byte reaches; 0 where it is refused or none is open
 abbrev pub part_open : ℕ → ℕ → Bus → List ℕ → ℕ
 part_open early n b σ = if (eqb (refusal_from early n b σ) 0) b.part 0
+
+-- as a part that may be there; 0 is none
+abbrev pub named : ℕ → Option ℕ
+named zero = None
+named (suc k) = Some (suc k)
+
+-- the part with the address at a place; 0 where there is none
+abbrev pub part_at : Option ℕ → ℕ
+part_at None = 0
+part_at (Some k) = suc k
+
+-- a reply, by the data of a byte that is acknowledged: acknowledged and data
+abbrev pub reply_of : Option ℕ → List ℕ
+reply_of None = nobody
+reply_of (Some v) = 1 ∷ v ∷ []
 
 -- the answer to a byte that is served
 abbrev pub byte_answer : Bus → List ℕ → ByteAnswer
@@ -57,3 +68,22 @@ read_free early n b σ = if (eqb (refusal_from early n b σ) 0) (byte_answer b n
 -- to a byte asked for of the part whose transfer is open
 abbrev pub read_open : Device → Bus → ByteAnswer
 read_open d b = byte_answer b (asked_reply (use_at b.phase) d)
+
+-- to a byte given or asked for: by no record, and of the part whose transfer is open
+abbrev pub byte_free : ℕ → ℕ → Bus → List ℕ → Byte → ByteAnswer
+byte_free early n b σ (Given v) = write_free early n b σ v
+byte_free early n b σ Asked = read_free early n b σ
+
+abbrev pub byte_open : Byte → Device → Bus → ByteAnswer
+byte_open (Given v) d b = put_answer 0 v b
+byte_open Asked d b = read_open d b
+
+-- the record of that part after it
+abbrev pub byte_left : Byte → Use → Device → Device
+byte_left (Given v) u d = given u v d
+byte_left Asked u d = asked u d
+
+-- the call that it is
+abbrev pub byte_call : Byte → BusCall
+byte_call (Given v) = put v
+byte_call Asked = get

@@ -1,15 +1,18 @@
 // The calls on the two-wire bus by value: their number, the bus state that they leave, what they answer, and the record that a byte reaches.
 #![tactic(auto)]
 
-ghost use Rattle.std.specs.Prelude.{◌≤◌, [], ◌∷◌, ◌≡◌, eqb, take};
+ghost use Rattle.std.specs.Prelude.{◌<◌, ◌≡◌, ◌/◌, IfSome, eqb, nat_eq, nat_lt, length, take, position};
+ghost use Rattle.std.specs.List.{list_all};
 ghost use Rattle.ground.specs.Choice.{if};
-ghost use Rattle.bus.specs.Straps.{matched, distinct, seven_bits};
-ghost use Rattle.bus.specs.States.{slave, idle, use_at, bus_of};
-ghost use Rattle.bus.specs.BusServed.{opened, given, asked, slave_reply};
-ghost use Rattle.transfers.specs.Transfers.{few, later_none, refusal_from, moved, part_open, byte_answer, refused_byte, put_answer, write_free, read_free, read_open};
+ghost use Rattle.refusals.specs.Numbers.{number_of, number_by};
+ghost use Rattle.bus.specs.Straps.{distinct};
+ghost use Rattle.bus.specs.States.{use_at, bus_of};
+ghost use Rattle.bus.specs.BusServed.{opened, slave_reply};
+ghost use Rattle.transfers.specs.Transfers.{refusal_from, moved, named, part_at, part_open, reply_of, byte_answer, refused_byte, put_answer, byte_free, byte_open, byte_left};
 
-use bus::Bus;
+use bus::{Bus, State, Use};
 use device::Device;
+use refusals::Refusal;
 
 // The parts' addresses, part 1's first; those past the number of parts count for nothing.
 #[repr(C)]
@@ -36,281 +39,203 @@ pub struct ByteAnswer {
     pub data: u8,
 }
 
-// How many straps are looked at: n, or all.
-fn few(n: usize) -> usize
-    ensures { (result ≡ few n) × (result ≤ 16) }
-{
-    if n < 16 { n } else { 16 }
+// A byte on the bus: given by the master, or asked for.
+#[derive(Clone, Copy)]
+pub enum Byte {
+    Given(u8),
+    Asked,
 }
 
-// The part, of n, that a slave byte names; 0 where it names none.
-fn matched(straps: Straps, n: usize, byte: u8) -> usize
-    requires { n ≤ 16 }
-    ensures { result ≡ matched n straps.addresses byte }
-{
-    let addresses = straps.addresses;
-    let a = byte / 2;
-    let mut i = 0;
-    while i < n {
-        if addresses[i] == a {
-            return i + 1;
-        }
-        i += 1;
-    }
-    0
+// What a start, a byte and a stop find: why the parts' records alone refuse them, how many parts there are, the bus state, the parts' addresses.
+#[derive(Clone, Copy)]
+pub struct Call {
+    pub early: Result<(), Refusal>,
+    pub n: usize,
+    pub bus: Bus,
+    pub straps: Straps,
 }
 
-// Whether no strap from place i on, of the first n, is a.
-fn later_none(addresses: [u8; 16], n: usize, a: u8, i: usize) -> bool
-    requires { (n ≤ 16) × (i ≤ n) }
-    ensures { result ≡ later_none n addresses a i }
+// The place among these addresses of the one that a slave byte names.
+fn matched(addresses: &[u8], byte: u8) -> Option<usize>
+    ensures first { result ≡ position (λ a. nat_eq a (byte / 2)) addresses.now }
+    ensures within { IfSome result (λ at. at < length addresses.now) }
 {
-    let mut j = i;
-    while j < n {
-        if addresses[j] == a {
+    addresses.iter().position(|&a| a == byte / 2)
+}
+
+// Whether no two addresses are the same number.
+#[tactic(auto, using(crate::proofs::StrapLaws::distinct_end, crate::proofs::StrapLaws::distinct_step))]
+fn distinct(addresses: &[u8]) -> bool
+    ensures { result ≡ distinct addresses.now }
+{
+    let mut rest = addresses;
+    while let Some((first, later)) = rest.split_first() {
+        if later.contains(first) {
             return false;
         }
-        j += 1;
+        rest = later;
     }
     true
 }
 
-// Whether no two of the first n straps are the same number.
-fn distinct(straps: Straps, n: usize) -> bool
-    requires { n ≤ 16 }
-    ensures { result ≡ distinct (take n straps.addresses) }
+// Whether all addresses are seven bits.
+fn seven_bits(addresses: &[u8]) -> bool
+    ensures { result ≡ list_all (λ a. nat_lt a 128) addresses.now }
 {
-    let addresses = straps.addresses;
-    let mut i = 0;
-    while i < n {
-        let none = later_none(addresses, n, addresses[i], i + 1);
-        if !none {
-            return false;
+    addresses.iter().all(|&a| a < 128)
+}
+
+// Why the records refuse a call, but that it is lacked, which comes after a clash and an address above 127.
+fn unless_lacked(early: Result<(), Refusal>) -> Result<(), Refusal>
+    ensures { number_of result ≡ if (eqb (number_of early) 14) 0 (number_of early) }
+{
+    match early {
+        Err(Refusal::Lacked) => Ok(()),
+        _ => early,
+    }
+}
+
+impl Call {
+    // The parts' addresses: the first n, or all.
+    fn addresses(&self) -> &[u8]
+        ensures { result.now ≡ take self.now.n self.now.straps.addresses }
+    {
+        &self.straps.addresses[..self.n.min(16)]
+    }
+
+    // Why it is refused.
+    #[tactic(auto, using(crate::proofs::StrapLaws::by_records, crate::proofs::StrapLaws::by_tests))]
+    pub fn refusal(&self) -> Result<(), Refusal>
+        ensures { number_of result ≡ refusal_from (number_of self.now.early) self.now.n self.now.bus self.now.straps.addresses }
+    {
+        unless_lacked(self.early)?;
+        if !self.bus.is_sound(self.n) {
+            return Err(Refusal::Unsound);
         }
-        i += 1;
-    }
-    true
-}
-
-// Whether the first n straps are seven bits.
-fn seven_bits(straps: Straps, n: usize) -> bool
-    requires { n ≤ 16 }
-    ensures { result ≡ seven_bits (take n straps.addresses) }
-{
-    let addresses = straps.addresses;
-    let mut i = 0;
-    while i < n {
-        if 127 < addresses[i] {
-            return false;
+        let addresses = self.addresses();
+        if !distinct(addresses) {
+            return Err(Refusal::Clash);
         }
-        i += 1;
+        if !seven_bits(addresses) {
+            return Err(Refusal::Address);
+        }
+        self.early
     }
-    true
+
+    // The answer to a start or a stop; left is the state that it leaves where it is served.
+    #[tactic(auto, using(refusals::proofs::RefusalLaws::row_number))]
+    pub fn moved(&self, left: State) -> BusAnswer
+        ensures { result ≡ moved (refusal_from (number_of self.now.early) self.now.n self.now.bus self.now.straps.addresses) self.now.bus (bus_of left) }
+    {
+        match self.refusal() {
+            Ok(()) => BusAnswer {
+                number: 0,
+                bus: Bus::from(left),
+            },
+            Err(refusal) => BusAnswer {
+                number: u8::from(refusal),
+                bus: self.bus,
+            },
+        }
+    }
+
+    // The part whose open transfer a byte reaches; none where it is refused or none is open.
+    #[tactic(auto, using(refusals::proofs::RefusalLaws::row_number))]
+    pub fn part_open(&self) -> Option<usize>
+        ensures { result ≡ named (part_open (number_of self.now.early) self.now.n self.now.bus self.now.straps.addresses) }
+    {
+        if self.bus.part == 0 || self.refusal().is_err() {
+            return None;
+        }
+        Some(self.bus.part)
+    }
+
+    // The answer to a byte that no record decides.
+    #[tactic(auto, using(crate::proofs::StrapLaws::place_found, refusals::proofs::RefusalLaws::row_number))]
+    pub fn byte_free(&self, byte: Byte) -> ByteAnswer
+        ensures { result ≡ byte_free (number_of self.now.early) self.now.n self.now.bus self.now.straps.addresses byte }
+    {
+        match (self.refusal(), byte) {
+            (Err(refusal), _) => ByteAnswer::refused(refusal, self.bus),
+            (Ok(()), Byte::Given(v)) => put_answer(matched(self.addresses(), v), v, self.bus),
+            (Ok(()), Byte::Asked) => ByteAnswer::served(self.bus, None),
+        }
+    }
 }
 
-// A number but 14, which comes after 10 and 11.
-fn unless_14(early: u8) -> u8
-    ensures { result ≡ if (eqb early 14) 0 early }
-{
-    if early == 14 { 0 } else { early }
-}
-
-// The number of a start, a byte or a stop on n parts; early is that of their records.
-pub fn refusal(early: u8, n: usize, bus: Bus, straps: Straps) -> u8
-    ensures { result ≡ refusal_from early n bus straps.addresses }
-{
-    let first = unless_14(early);
-    if first != 0 {
-        return first;
-    }
-    if n < bus.part {
-        return 7;
-    }
-    if 2 < bus.phase {
-        return 7;
-    }
-    let m = few(n);
-    if !distinct(straps, m) {
-        return 10;
-    }
-    if !seven_bits(straps, m) {
-        return 11;
-    }
-    early
-}
-
-// A start's or a stop's answer, by its number; left is the bus state that it leaves where it is served.
-fn moved(number: u8, bus: Bus, left: Bus) -> BusAnswer
-    ensures { result ≡ moved number bus left }
-{
-    if number != 0 {
-        return BusAnswer {
-            number: number,
+impl ByteAnswer {
+    // A refused byte's.
+    fn refused(refusal: Refusal, bus: Bus) -> ByteAnswer
+        ensures { result ≡ refused_byte (number_by refusal) bus }
+    {
+        ByteAnswer {
+            number: u8::from(refusal),
             bus: bus,
-        };
-    }
-    BusAnswer {
-        number: number,
-        bus: left,
-    }
-}
-
-// A start's answer: the slave byte is awaited.
-pub fn start_answer(early: u8, n: usize, bus: Bus, straps: Straps) -> BusAnswer
-    ensures { result ≡ moved (refusal_from early n bus straps.addresses) bus (bus_of slave) }
-{
-    let number = refusal(early, n, bus, straps);
-    moved(number, bus, Bus { part: 0, phase: 1 })
-}
-
-// A stop's answer: the bus is idle.
-pub fn stop_answer(early: u8, n: usize, bus: Bus, straps: Straps) -> BusAnswer
-    ensures { result ≡ moved (refusal_from early n bus straps.addresses) bus (bus_of idle) }
-{
-    let number = refusal(early, n, bus, straps);
-    moved(number, bus, Bus::IDLE)
-}
-
-// The part whose open transfer a byte reaches; 0 where it is refused or none is open.
-pub fn part_open(early: u8, n: usize, bus: Bus, straps: Straps) -> usize
-    ensures { result ≡ part_open early n bus straps.addresses }
-{
-    if bus.part == 0 {
-        return 0;
-    }
-    if refusal(early, n, bus, straps) != 0 {
-        return 0;
-    }
-    bus.part
-}
-
-// A refused byte's answer.
-fn refused(number: u8, bus: Bus) -> ByteAnswer
-    ensures { result ≡ refused_byte number bus }
-{
-    ByteAnswer {
-        number: number,
-        bus: bus,
-        acknowledged: 0,
-        data: 0,
-    }
-}
-
-// A served byte's answer.
-fn answered(part: usize, phase: u8, acknowledged: u8, data: u8) -> ByteAnswer
-    ensures { result ≡ byte_answer (record { part = part; phase = phase }) (acknowledged ∷ «data» ∷ []) }
-{
-    ByteAnswer {
-        number: 0,
-        bus: Bus {
-            part: part,
-            phase: phase,
-        },
-        acknowledged: acknowledged,
-        data: data,
-    }
-}
-
-// The answer to a slave byte that names part m.
-fn slave_answer(m: usize, byte: u8) -> ByteAnswer
-    ensures { result ≡ byte_answer (bus_of (opened m byte)) (slave_reply m) }
-{
-    if m == 0 {
-        return answered(0, 2, 0, 255);
-    }
-    if byte % 2 == 1 {
-        return answered(m, 2, 1, 0);
-    }
-    answered(m, 0, 1, 0)
-}
-
-// The answer to a byte given, which as a slave byte names part m.
-fn put_answer(m: usize, byte: u8, bus: Bus) -> ByteAnswer
-    ensures { result ≡ put_answer m byte bus }
-{
-    if bus.part == 0 {
-        if bus.phase == 0 {
-            return answered(0, 0, 0, 255);
+            acknowledged: 0,
+            data: 0,
         }
-        if bus.phase == 1 {
-            return slave_answer(m, byte);
+    }
+
+    // A served byte's: its data where it is acknowledged, else 255.
+    fn served(left: Bus, reply: Option<u8>) -> ByteAnswer
+        ensures { result ≡ byte_answer left (reply_of reply) }
+    {
+        ByteAnswer {
+            number: 0,
+            bus: left,
+            acknowledged: u8::from(reply.is_some()),
+            data: reply.unwrap_or(255),
         }
-        return answered(0, 2, 0, 255);
     }
-    if bus.phase == 0 {
-        return answered(bus.part, 1, 1, 0);
-    }
-    if bus.phase == 1 {
-        return answered(bus.part, 1, 1, 0);
-    }
-    answered(bus.part, 2, 0, 255)
 }
 
-// The answer to a byte given; no record decides it.
-pub fn write_free(early: u8, n: usize, bus: Bus, straps: Straps, byte: u8) -> ByteAnswer
-    ensures { result ≡ write_free early n bus straps.addresses byte }
+// The state that a slave byte leaves, and its reply; at is the place of the address that it names.
+fn slave_byte(at: Option<usize>, byte: u8) -> (State, Option<u8>)
+    requires { IfSome at (λ k. k < 16) }
+    ensures state { result.0 ≡ opened (part_at at) byte }
+    ensures reply { reply_of result.1 ≡ slave_reply (part_at at) }
 {
-    let number = refusal(early, n, bus, straps);
-    if number != 0 {
-        return refused(number, bus);
+    match at {
+        Some(k) if byte % 2 == 1 => (State::Transfer(k + 1, Use::Reading), Some(0)),
+        Some(k) => (State::Transfer(k + 1, Use::Command), Some(0)),
+        None => (State::Unmatched, None),
     }
-    let m = few(n);
-    put_answer(matched(straps, m, byte), byte, bus)
 }
 
-// The answer to a byte given in the open transfer of a part.
-pub fn write_open(d: Device, bus: Bus, byte: u8) -> ByteAnswer
-    ensures { result ≡ put_answer 0 byte bus }
+// The answer to a byte given; at is the place of the address that it names as a slave byte.
+fn put_answer(at: Option<usize>, byte: u8, bus: Bus) -> ByteAnswer
+    requires { IfSome at (λ k. k < 16) }
+    ensures { result ≡ put_answer (part_at at) byte bus }
 {
-    put_answer(0, byte, bus)
+    let (state, reply) = match State::from(bus) {
+        State::Slave => slave_byte(at, byte),
+        State::Transfer(part, Use::Command | Use::Writing) => {
+            (State::Transfer(part, Use::Writing), Some(0))
+        }
+        state => (state, None),
+    };
+    ByteAnswer::served(Bus::from(state), reply)
+}
+
+// The answer to a byte in the open transfer of a part.
+pub fn byte_open(d: Device, bus: Bus, byte: Byte) -> ByteAnswer
+    ensures { result ≡ byte_open byte d bus }
+{
+    match (Use::from(bus.phase), byte) {
+        (_, Byte::Given(v)) => put_answer(None, v, bus),
+        (Use::Reading, Byte::Asked) => ByteAnswer::served(bus, Some(d.sent_data())),
+        (_, Byte::Asked) => ByteAnswer::served(bus, None),
+    }
 }
 
 // The record of that part after it.
-pub fn written(d: Device, bus: Bus, byte: u8) -> Device
-    ensures { result ≡ given (use_at bus.phase) byte d }
+pub fn byte_left(d: Device, bus: Bus, byte: Byte) -> Device
+    ensures { result ≡ byte_left byte (use_at bus.phase) d }
 {
-    if bus.phase == 0 {
-        return d.commanded(byte);
+    match (Use::from(bus.phase), byte) {
+        (Use::Command, Byte::Given(v)) => d.commanded(v),
+        (Use::Writing, Byte::Given(v)) => d.received(v),
+        (Use::Reading, Byte::Asked) => d.sent(),
+        _ => d,
     }
-    if bus.phase == 1 {
-        return d.received(byte);
-    }
-    d
-}
-
-// The answer to a byte asked for where no transfer is open.
-pub fn read_free(early: u8, n: usize, bus: Bus, straps: Straps) -> ByteAnswer
-    ensures { result ≡ read_free early n bus straps.addresses }
-{
-    let number = refusal(early, n, bus, straps);
-    if number != 0 {
-        return refused(number, bus);
-    }
-    answered(bus.part, bus.phase, 0, 255)
-}
-
-// The answer to a byte asked for of the part whose transfer is open.
-pub fn read_open(d: Device, bus: Bus) -> ByteAnswer
-    ensures { result ≡ read_open d bus }
-{
-    if bus.phase == 0 {
-        return answered(bus.part, bus.phase, 0, 255);
-    }
-    if bus.phase == 1 {
-        return answered(bus.part, bus.phase, 0, 255);
-    }
-    answered(bus.part, bus.phase, 1, d.sent_data())
-}
-
-// The record of that part after it.
-pub fn read(d: Device, bus: Bus) -> Device
-    ensures { result ≡ asked (use_at bus.phase) d }
-{
-    if bus.phase == 0 {
-        return d;
-    }
-    if bus.phase == 1 {
-        return d;
-    }
-    d.sent()
 }

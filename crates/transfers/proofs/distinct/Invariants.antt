@@ -1,10 +1,10 @@
 -- `transfers::distinct` meets its contract. Assumes nothing.
-use Rattle.ground.proofs.Names.{◌≤◌, ◌-◌, ◌≡◌, take, drop}
+use Rattle.ground.proofs.Names.{◌≡◌, length}
 use Rattle.bus.specs.Straps.{distinct}
 use Rattle.transfers.proofs.distinct.Given as goal
 
-abbrev pub invariant-loop-i : goal.invariant-loop-i
-invariant-loop-i l = (l.i ≤ l.n) × (distinct (take l.n l.addresses) ≡ distinct (drop l.i (take l.n l.addresses)))
+abbrev pub invariant-loop-first : goal.invariant-loop-first
+invariant-loop-first l = distinct l.addresses ≡ distinct l.rest
 
-abbrev pub decreases-loop-i : goal.decreases-loop-i
-decreases-loop-i l = l.n - l.i
+abbrev pub decreases-loop-first : goal.decreases-loop-first
+decreases-loop-first l = length l.rest

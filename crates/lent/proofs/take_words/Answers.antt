@@ -24,7 +24,7 @@ loop-i-preserved c =
     elim c.if-in_place.branch [
       | then-in_place w ↦ (
         inside,
-        w.chain-is ∙ high c.loop-i.chain i _ lt _ fits (sym c.in_place.ensures ∙ w.if-in_place.true) _ _ _ _ _ w.digit-at.ensures w.new_p0.ensures w.new_p1.ensures w.new_shift.ensures (w.answer_mark.ensures ∙ mark_is _ fits) ∙ next,
+        w.chain-is ∙ high c.loop-i.chain i _ lt _ fits (sym c.in_place.ensures ∙ w.if-in_place.true) _ _ _ _ _ w.digit-at.ensures w.new_byte.ensures w.new_byte-then-in_place.ensures w.new_shift.ensures (w.answer_mark.ensures ∙ mark_is _ fits) ∙ next,
       )
       | else-in_place+then-is_ports+then-is_high w ↦ (
         inside,

@@ -82,13 +82,8 @@ impl Device {
 
     // A MAX6957 at power-up; it differs in the family alone.
     pub const MAX6957_POWER_UP: Device = Device {
-        registers: Device::REGISTERS,
-        shift: 0,
-        fitted: 255,
-        answer_mark: 0,
-        command: 0,
         family: 1,
-        ports: PortRegisters::POWER_UP,
+        ..Device::POWER_UP
     };
 
     pub fn new() -> Device

@@ -18,13 +18,16 @@ in_place w family = is_high w && eqb family 0
 abbrev pub digit_of : ℕ → ℕ
 digit_of w = w / 256 % 16
 
--- the digit's byte in plane P0 after it: writes to 0x20+d and 0x60+d reach it
-abbrev pub new_p0 : ℕ → ℕ → ℕ
-new_p0 w old = if (eqb (w / 4096) 2 || eqb (w / 4096) 6) (w % 256) old
+-- the digit's byte in a plane after it: writes to the plane's own row of addresses and to 0x60+d reach it
+abbrev pub new_byte : ℕ → ℕ → ℕ → ℕ
+new_byte row w old = if (eqb (w / 4096) row || eqb (w / 4096) 6) (w % 256) old
 
--- and in plane P1: writes to 0x40+d and 0x60+d do
+-- plane P0's row is 0x20+d, plane P1's 0x40+d
+abbrev pub new_p0 : ℕ → ℕ → ℕ
+new_p0 = new_byte 2
+
 abbrev pub new_p1 : ℕ → ℕ → ℕ
-new_p1 w old = if (eqb (w / 4096) 4 || eqb (w / 4096) 6) (w % 256) old
+new_p1 = new_byte 4
 
 -- what it reads: 0x20+d plane P0's byte, 0x40+d plane P1's, others 0
 abbrev pub digit_read : ℕ → ℕ → ℕ → ℕ

@@ -2,7 +2,7 @@
 #![tactic(auto)]
 
 ghost use Rattle.std.specs.Prelude.{◌≡◌};
-ghost use Rattle.high_words.specs.HighWords.{in_place, digit_of, new_p0, new_p1, digit_read, new_shift};
+ghost use Rattle.high_words.specs.HighWords.{in_place, digit_of, new_byte, digit_read, new_shift};
 ghost use Rattle.high_words.specs.LowWords.{is_ports};
 
 // A word with an address of 0x20 or above, for a driver of the old family.
@@ -19,35 +19,23 @@ pub fn digit(word: u16) -> usize
     (word / 256 % 16) as usize
 }
 
-// The digit's byte in plane P0 after the word.
-pub fn new_p0(word: u16, old: u8) -> u8
-    ensures { result ≡ new_p0 word old }
+// The digit's byte in a plane after the word: in P0 where ROW is 2, in P1 where it is 4. 0x60 writes both.
+pub fn new_byte<const ROW: u16>(word: u16, old: u8) -> u8
+    ensures { result ≡ new_byte ROW word old }
 {
     let row = word / 4096;
     let v = (word % 256) as u8;
-    if (row == 2) | (row == 6) { v } else { old }
-}
-
-// And in plane P1.
-pub fn new_p1(word: u16, old: u8) -> u8
-    ensures { result ≡ new_p1 word old }
-{
-    let row = word / 4096;
-    let v = (word % 256) as u8;
-    if (row == 4) | (row == 6) { v } else { old }
+    if (row == ROW) | (row == 6) { v } else { old }
 }
 
 // What the word reads, by the digit's bytes before it.
 fn digit_read(word: u16, p0: u8, p1: u8) -> u8
     ensures { result ≡ digit_read word p0 p1 }
 {
-    let row = word / 4096;
-    if row == 12 {
-        p1
-    } else if row == 10 {
-        p0
-    } else {
-        0
+    match word / 4096 {
+        12 => p1,
+        10 => p0,
+        _ => 0,
     }
 }
 
@@ -55,11 +43,10 @@ fn digit_read(word: u16, p0: u8, p1: u8) -> u8
 pub fn new_shift(word: u16, p0: u8, p1: u8) -> u16
     ensures { result ≡ new_shift word p0 p1 }
 {
-    let data = digit_read(word, p0, p1);
     if word / 4096 < 8 {
         word
     } else {
-        word / 256 * 256 + data as u16
+        word / 256 * 256 + digit_read(word, p0, p1) as u16
     }
 }
 

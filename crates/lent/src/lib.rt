@@ -87,8 +87,8 @@ pub fn take_words(chain: &mut [Device], words: &[u16])
             let at = high_words::digit(w);
             let p0 = chain[i].registers.planes.p0[at];
             let p1 = chain[i].registers.planes.p1[at];
-            chain[i].registers.planes.p0[at] = high_words::new_p0(w, p0);
-            chain[i].registers.planes.p1[at] = high_words::new_p1(w, p1);
+            chain[i].registers.planes.p0[at] = high_words::new_byte::<2>(w, p0);
+            chain[i].registers.planes.p1[at] = high_words::new_byte::<4>(w, p1);
             chain[i].shift = high_words::new_shift(w, p0, p1);
             chain[i].answer_mark = device::answer_mark(w);
         } else if high_words::is_ports(family) {

@@ -21,7 +21,7 @@ loop-i-preserved c =
     let fits = (c.type_inv.words i).fits in
     let next = taken_turn c.args.chain.now ws i _ c.loop-i.invariant h.0 lt in
     elim c.if-in_place.branch [
-      | then-in_place w ↦ w.chain-is ∙ high c.loop-i.chain i _ lt _ fits (sym c.in_place.ensures ∙ w.if-in_place.true) _ _ _ _ _ w.digit-at.ensures w.new_p0.ensures w.new_p1.ensures w.new_shift.ensures (w.answer_mark.ensures ∙ mark_is _ fits) ∙ next
+      | then-in_place w ↦ w.chain-is ∙ high c.loop-i.chain i _ lt _ fits (sym c.in_place.ensures ∙ w.if-in_place.true) _ _ _ _ _ w.digit-at.ensures w.new_byte.ensures w.new_byte-then-in_place.ensures w.new_shift.ensures (w.answer_mark.ensures ∙ mark_is _ fits) ∙ next
       | else-in_place+then-is_ports+then-is_high w ↦ w.chain-is ∙ ports_far c.loop-i.chain i _ lt _ fits (sym w.is_ports.ensures ∙ w.if-is_ports.true) (sym w.is_high.ensures ∙ w.if-is_high.true) _ _ _ _ w.new_shift-then-is_high.ensures w.new_stored.ensures w.new_transition.ensures (w.answer_mark-then-is_high.ensures ∙ mark_is _ fits) ∙ next
       | else-in_place+then-is_ports+else-is_high w ↦ w.chain-is ∙ ports_near c.loop-i.chain i _ lt _ fits (sym w.is_ports.ensures ∙ w.if-is_ports.true) _ _ _ w.shift_word.ensures w.taken.ensures (w.answer_mark-else-is_high.ensures ∙ mark_is _ fits) ∙ next
       | else-in_place+else-is_ports w ↦ w.chain-is ∙ low c.loop-i.chain i _ lt _ fits (sym w.is_ports.ensures ∙ w.if-is_ports.false) _ _ _ w.shift_word-else-is_ports.ensures w.obeyed.ensures (w.answer_mark-else-is_ports.ensures ∙ mark_is _ fits) ∙ next

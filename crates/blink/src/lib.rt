@@ -19,9 +19,7 @@ fn in_cycle(clocks: u32, steps: u32) -> u32
     ensures { result ≡ clocks % 4000000 }
 {
     let mut left = clocks;
-    let mut k = steps;
-    while 0 < k {
-        k -= 1;
+    for k in (0..steps).rev() {
         let cycles = 4000000 << k;
         if cycles <= left {
             left -= cycles;
@@ -77,16 +75,9 @@ fn fast_phase(count: u32) -> Plane
     requires { count < 4000000 }
     ensures { result ≡ phase_at count true }
 {
-    if count < 1000000 {
-        return Plane::P0;
-    }
-    if count < 2000000 {
-        return Plane::P1;
-    }
-    if count < 3000000 {
-        Plane::P0
-    } else {
-        Plane::P1
+    match count {
+        0..1000000 | 2000000..3000000 => Plane::P0,
+        _ => Plane::P1,
     }
 }
 
@@ -96,12 +87,10 @@ pub fn phase(count: u32, fast: bool) -> Plane
 {
     if fast {
         fast_phase(advanced(count, 0))
+    } else if count < 2000000 {
+        Plane::P0
     } else {
-        if 2000000 <= count {
-            Plane::P1
-        } else {
-            Plane::P0
-        }
+        Plane::P1
     }
 }
 

@@ -26,31 +26,25 @@ impl Planes {
     pub fn digit(self, plane: Plane, digit: u8) -> u8
         ensures { result ≡ get_or (plane_of self plane) digit 0 }
     {
-        let p0 = self.p0;
-        let p1 = self.p1;
         match plane {
-            Plane::P0 => get16(p0, digit),
-            Plane::P1 => get16(p1, digit),
+            Plane::P0 => byte_at(self.p0, digit),
+            Plane::P1 => byte_at(self.p1, digit),
         }
     }
 
     // A digit written in one plane; a digit above 15 changes nothing.
-    pub fn written(mut self, plane: Plane, digit: u8, v: u8) -> Planes
+    pub fn written(self, plane: Plane, digit: u8, v: u8) -> Planes
         ensures { result ≡ digit_written self plane digit v }
     {
-        let p0 = self.p0;
-        let p1 = self.p1;
         match plane {
-            Plane::P0 => {
-                let new = put16(p0, digit, v);
-                self.p0 = new;
-                self
-            }
-            Plane::P1 => {
-                let new = put16(p1, digit, v);
-                self.p1 = new;
-                self
-            }
+            Plane::P0 => Planes {
+                p0: with_byte(self.p0, digit, v),
+                ..self
+            },
+            Plane::P1 => Planes {
+                p1: with_byte(self.p1, digit, v),
+                ..self
+            },
         }
     }
 
@@ -74,38 +68,31 @@ impl Planes {
 pub fn intensity(registers: [u8; 8], j: u8) -> u8
     ensures { result ≡ get_or registers j 0 }
 {
-    let k = j as usize;
-    if k < 8 { registers[k] } else { 0 }
+    byte_at(registers, j)
 }
 
 // Intensity register j written; a j above 7 changes nothing.
-pub fn intensity_written(mut registers: [u8; 8], j: u8, v: u8) -> [u8; 8]
+pub fn intensity_written(registers: [u8; 8], j: u8, v: u8) -> [u8; 8]
     ensures { result ≡ set registers j v }
 {
-    let k = j as usize;
-    if k < 8 {
-        registers[k] = v;
-    }
-    registers
+    with_byte(registers, j, v)
 }
 
 // The byte at i, or 0 where i is past the end.
-fn get16(a: [u8; 16], i: u8) -> u8
-    ensures { result ≡ get_or a i 0 }
+fn byte_at<const N: usize>(bytes: [u8; N], i: u8) -> u8
+    ensures { result ≡ get_or bytes.entry i 0 }
 {
-    let k = i as usize;
-    if k < 16 { a[k] } else { 0 }
+    bytes.get(i as usize).copied().unwrap_or(0)
 }
 
-// The array with v at i, or as it was where i is past the end.
-fn put16(mut a: [u8; 16], i: u8, v: u8) -> [u8; 16]
-    ensures { result ≡ set a i v }
+// The bytes with v at i, or as they were where i is past the end.
+fn with_byte<const N: usize>(mut bytes: [u8; N], i: u8, v: u8) -> [u8; N]
+    ensures { result ≡ set bytes.entry i v }
 {
-    let k = i as usize;
-    if k < 16 {
-        a[k] = v;
+    if (i as usize) < N {
+        bytes[i as usize] = v;
     }
-    a
+    bytes
 }
 
 // A theorem: what writes and R leave in both planes, digit by digit.

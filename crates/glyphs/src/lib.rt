@@ -69,13 +69,8 @@ pub fn pair_segments(hex: bool, byte: u8, a: u8) -> u32
 pub fn glyph_segments(font: &[u16], byte: u8) -> u32
     ensures { result ≡ glyph_segments font.now byte }
 {
-    let k = (byte % 128) as usize;
-    let point = (byte / 128) as u32 * 65536;
-    if k < font.len() {
-        point + font[k] as u32
-    } else {
-        point
-    }
+    let word = font.get((byte % 128) as usize).copied().unwrap_or(0);
+    (byte / 128) as u32 * 65536 + word as u32
 }
 
 // A theorem: each segment of each display's list is lit where its bit is 1.

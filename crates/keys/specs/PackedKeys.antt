@@ -5,7 +5,6 @@ use Rattle.std.specs.Int.Bits.{bit_and, bit_or}
 use Rattle.keys.specs.Keys.{closed_of}
 use Rattle.keys.specs.declared.Group.{Group}
 use Rattle.keys.specs.declared.Keys.{Keys}
-use Rattle.keys.specs.declared.Four.{Four}
 use Rattle.keys.specs.declared.Packed.{Packed}
 
 -- four bytes as one number, the first lowest
@@ -15,10 +14,6 @@ joined a b c d = a + b * 256 + c * 65536 + d * 16777216
 -- byte j of a number, the lowest being byte 0
 unfoldable pub byte_at : ℕ → ℕ → ℕ
 byte_at j x = x / 2 ^ (8 * j) % 256
-
--- the four bytes of a number
-abbrev pub split : ℕ → Four
-split x = record { a = byte_at 0 x; b = byte_at 1 x; c = byte_at 2 x; d = byte_at 3 x }
 
 -- the keys of the groups that are configured
 abbrev pub configured : ℕ → ℕ

@@ -1,9 +1,9 @@
 // The keys of a MAX6954: four groups of eight, scanned into debounced registers with an interrupt.
 #![tactic(auto)]
 
-ghost use Rattle.std.specs.Prelude.{◌≡◌};
+ghost use Rattle.std.specs.Prelude.{◌≡◌, ◌<◌};
 ghost use Rattle.keys.specs.Keys.{group_of, with_group, groups_of, mask_written, debounced_read, scanned_keys};
-ghost use Rattle.keys.specs.PackedKeys.{joined, split, configured, packed, unpacked, newly_packed, scanned_packed, raises_packed};
+ghost use Rattle.keys.specs.PackedKeys.{configured, packed, group_at, unpacked, newly_packed, scanned_packed, raises_packed};
 ghost use Rattle.ground.specs.Choice.{if};
 ghost use Rattle.keys.specs.KeyByKey.{KeyByKey};
 
@@ -51,15 +51,11 @@ impl Keys {
     pub fn group(self, group: KeyGroup) -> Group
         ensures { result ≡ group_of self group }
     {
-        let a = self.a;
-        let b = self.b;
-        let c = self.c;
-        let d = self.d;
         match group {
-            KeyGroup::A => a,
-            KeyGroup::B => b,
-            KeyGroup::C => c,
-            KeyGroup::D => d,
+            KeyGroup::A => self.a,
+            KeyGroup::B => self.b,
+            KeyGroup::C => self.c,
+            KeyGroup::D => self.d,
         }
     }
 
@@ -67,23 +63,12 @@ impl Keys {
         ensures { result ≡ with_group self group new }
     {
         match group {
-            KeyGroup::A => {
-                self.a = new;
-                self
-            }
-            KeyGroup::B => {
-                self.b = new;
-                self
-            }
-            KeyGroup::C => {
-                self.c = new;
-                self
-            }
-            KeyGroup::D => {
-                self.d = new;
-                self
-            }
+            KeyGroup::A => self.a = new,
+            KeyGroup::B => self.b = new,
+            KeyGroup::C => self.c = new,
+            KeyGroup::D => self.d = new,
         }
+        self
     }
 
     // A key mask written.
@@ -109,15 +94,12 @@ impl Keys {
     fn packed(self) -> Packed
         ensures { result ≡ packed self }
     {
-        let a = self.a;
-        let b = self.b;
-        let c = self.c;
-        let d = self.d;
+        let groups = [self.a, self.b, self.c, self.d];
         Packed {
-            mask: joined(a.mask, b.mask, c.mask, d.mask),
-            debounced: joined(a.debounced, b.debounced, c.debounced, d.debounced),
-            pressed: joined(a.pressed, b.pressed, c.pressed, d.pressed),
-            held: joined(a.held, b.held, c.held, d.held),
+            mask: u32::from_le_bytes(groups.map(|group| group.mask)),
+            debounced: u32::from_le_bytes(groups.map(|group| group.debounced)),
+            pressed: u32::from_le_bytes(groups.map(|group| group.pressed)),
+            held: u32::from_le_bytes(groups.map(|group| group.held)),
         }
     }
 
@@ -126,10 +108,9 @@ impl Keys {
         ensures { result ≡ scanned_keys self ports a b c d }
     {
         let old = self.packed();
-        let closed = joined(a, b, c, d) & configured(ports);
+        let closed = u32::from_le_bytes([a, b, c, d]) & configured(ports);
         let interrupt = raised_or(old.raises(closed), self.interrupt);
-        let new = old.scanned(closed);
-        new.unpacked(interrupt)
+        old.scanned(closed).unpacked(interrupt)
     }
 }
 
@@ -147,7 +128,7 @@ impl Packed {
     fn newly(self, closed: u32) -> u32
         ensures { result ≡ newly_packed self closed }
     {
-        closed & self.pressed & (0xFFFFFFFF - self.held)
+        closed & self.pressed & !self.held
     }
 
     fn scanned(self, closed: u32) -> Packed
@@ -170,69 +151,30 @@ impl Packed {
         new & self.mask != 0
     }
 
+    // Group j of the four, group A being 0.
+    fn group(self, j: usize) -> Group
+        requires { j < 4 }
+        ensures { result ≡ group_at self j }
+    {
+        Group {
+            mask: self.mask.to_le_bytes()[j],
+            debounced: self.debounced.to_le_bytes()[j],
+            pressed: self.pressed.to_le_bytes()[j],
+            held: self.held.to_le_bytes()[j],
+        }
+    }
+
     // The four groups, with an interrupt.
     fn unpacked(self, interrupt: u8) -> Keys
         ensures { result ≡ unpacked self interrupt }
     {
-        let mask = split(self.mask);
-        let debounced = split(self.debounced);
-        let pressed = split(self.pressed);
-        let held = split(self.held);
         Keys {
-            a: Group {
-                mask: mask.a,
-                debounced: debounced.a,
-                pressed: pressed.a,
-                held: held.a,
-            },
-            b: Group {
-                mask: mask.b,
-                debounced: debounced.b,
-                pressed: pressed.b,
-                held: held.b,
-            },
-            c: Group {
-                mask: mask.c,
-                debounced: debounced.c,
-                pressed: pressed.c,
-                held: held.c,
-            },
-            d: Group {
-                mask: mask.d,
-                debounced: debounced.d,
-                pressed: pressed.d,
-                held: held.d,
-            },
+            a: self.group(0),
+            b: self.group(1),
+            c: self.group(2),
+            d: self.group(3),
             interrupt,
         }
-    }
-}
-
-// Four bytes as one number, the first lowest.
-fn joined(a: u8, b: u8, c: u8, d: u8) -> u32
-    ensures { result ≡ joined a b c d }
-{
-    a as u32 + b as u32 * 0x100 + c as u32 * 0x10000 + d as u32 * 0x1000000
-}
-
-// One byte of each group.
-#[derive(Clone, Copy)]
-struct Four {
-    a: u8,
-    b: u8,
-    c: u8,
-    d: u8,
-}
-
-// The four bytes of a number, the lowest first.
-fn split(x: u32) -> Four
-    ensures { result ≡ split x }
-{
-    Four {
-        a: (x % 256) as u8,
-        b: (x / 0x100 % 256) as u8,
-        c: (x / 0x10000 % 256) as u8,
-        d: (x / 0x1000000 % 256) as u8,
     }
 }
 
@@ -253,8 +195,7 @@ fn configured(ports: u8) -> u32
 pub fn groups(ports: u8) -> u8
     ensures { result ≡ groups_of ports }
 {
-    let number = ports / 32;
-    if number < 4 { number } else { 4 }
+    (ports / 32).min(4)
 }
 
 // The interrupt after a scan: 1 where one is raised, else as it was.

@@ -11,8 +11,7 @@ const FREE: [u8; 4] = [31, 14, 12, 8];
 fn free_ports(groups: u8) -> u8
     ensures { result ≡ free_ports groups }
 {
-    let n = groups as usize;
-    if n < 4 { FREE[n] } else { 0 }
+    FREE.get(groups as usize).copied().unwrap_or(0)
 }
 
 // P4 as the interrupt, where a group is configured.

@@ -52,6 +52,10 @@ packed_row k d = record { first = packed_pins k d 0; middle = packed_pins k d 8;
 abbrev pub six_pins : Display → PackedPins
 six_pins k = packed_entries 6 (λ r. entry_at k 0 (2 + r))
 
+-- a display's list: its first six pins, and those of O8 to O15 and of O16 to O18, which are cathode 0's
+abbrev pub packed_list : Display → PackedRow
+packed_list k = record { first = six_pins k; middle = packed_pins k 0 8; last = packed_pins k 0 16 }
+
 -- the bytes of six pins from the pair of cathode d on
 abbrev pub bytes_above : ℕ → ℕ → ℕ
 bytes_above six d = six / 2 ^ (16 * (d / 2)) * 2 ^ (16 * (d / 2)) % 2 ^ 64

@@ -8,14 +8,14 @@ ghost use Rattle.std.specs.Prelude.{◌≡◌, ◌+◌, ◌<◌, ◌≤◌, get_
 ghost use Rattle.ground.specs.Lists.{tabulate};
 ghost use Rattle.wiring.specs.Wiring.{wire_at};
 ghost use Rattle.wiring.specs.Table.{display_index, wire_entry, table, WiringTable};
-ghost use Rattle.wiring.specs.PackedRows.{six_pins, packed_pins, parted, first_pins, packed_row};
+ghost use Rattle.wiring.specs.PackedRows.{packed_list, parted, first_pins, packed_row};
 
 // What a cathode drives: a 16-segment digit, a 14-segment digit or two 7-segment digits.
 #[derive(Clone, Copy)]
 pub enum Display {
-    Sixteen,
-    Fourteen,
-    SevenPair,
+    Sixteen = 0,
+    Fourteen = 1,
+    SevenPair = 2,
 }
 
 // Eight pins, a byte a pin, the lowest byte first: each pin's number in an answer where its segment is lit, and its segment as one bit of byte
@@ -48,26 +48,16 @@ fn display_index(display: Display) -> usize
     ensures value { result ≡ display_index display }
     ensures upper_bound { result < 3 }
 {
-    match display {
-        Display::Sixteen => 0,
-        Display::Fourteen => 1,
-        Display::SevenPair => 2,
-    }
+    display as usize
 }
 
-// Nineteen entries of the table from one on. The table is copied once for all of them.
+// Nineteen entries of the table from one on.
 fn entries(start: usize) -> [u8; 19]
     requires { start + 19 ≤ 456 }
     ensures { result ≡ tabulate 19 (λ p. get_or table (start + p) 0) }
 {
-    let table = table::WIRING;
     let mut row = [NOT_DRIVEN; 19];
-    let mut p = 0;
-    while p < 19 {
-        let n = start + p;
-        row[p] = table[n];
-        p += 1;
-    }
+    row.copy_from_slice(&table::WIRING[start..start + 19]);
     row
 }
 
@@ -76,43 +66,20 @@ pub fn wires(display: Display, cathode: usize) -> [u8; 19]
     ensures { result ≡ tabulate 19 (λ p. wire_entry (wire_at display cathode p)) }
 {
     if cathode < 8 {
-        let k = display_index(display);
-        entries(k * 152 + cathode * 19)
+        entries(display_index(display) * 152 + cathode * 19)
     } else {
         [NOT_DRIVEN; 19]
     }
 }
 
-// The first six pins of a display's list.
-fn six_pins(display: Display) -> PackedPins
-    ensures { result ≡ six_pins display }
+// A display's list, packed: its first six pins, and those of O8 to O15 and of O16 to O18, which are alike for every cathode.
+fn list(display: Display) -> PackedRow
+    ensures { result ≡ packed_list display }
 {
     match display {
-        Display::Sixteen => packed::SIX_OF_SIXTEEN,
-        Display::Fourteen => packed::SIX_OF_FOURTEEN,
-        Display::SevenPair => packed::SIX_OF_PAIR,
-    }
-}
-
-// The pins O8 to O15, alike for every cathode.
-fn middle_pins(display: Display) -> PackedPins
-    ensures { result ≡ packed_pins display 0 8 }
-{
-    match display {
-        Display::Sixteen => packed::MIDDLE_OF_WORD,
-        Display::Fourteen => packed::MIDDLE_OF_WORD,
-        Display::SevenPair => packed::MIDDLE_OF_PAIR,
-    }
-}
-
-// The pins O16 to O18, alike for every cathode.
-fn last_pins(display: Display) -> PackedPins
-    ensures { result ≡ packed_pins display 0 16 }
-{
-    match display {
-        Display::Sixteen => packed::LAST_OF_WORD,
-        Display::Fourteen => packed::LAST_OF_WORD,
-        Display::SevenPair => packed::LAST_OF_PAIR,
+        Display::Sixteen => packed::SIXTEEN,
+        Display::Fourteen => packed::FOURTEEN,
+        Display::SevenPair => packed::PAIR,
     }
 }
 
@@ -127,11 +94,10 @@ fn parted(six: u64, cathode: usize) -> u64
 }
 
 // The pins O0 to O7: the cathode's own and its partner's stand among the first six of the list.
-fn first_pins(display: Display, cathode: usize) -> PackedPins
+fn first_pins(six: PackedPins, cathode: usize) -> PackedPins
     requires { cathode < 8 }
-    ensures { result ≡ first_pins (six_pins display) cathode }
+    ensures { result ≡ first_pins six cathode }
 {
-    let six = six_pins(display);
     PackedPins {
         lit: parted(six.lit, cathode) | (1 << (8 * cathode)),
         low: parted(six.low, cathode),
@@ -145,16 +111,12 @@ pub fn packed_row(display: Display, cathode: usize) -> PackedRow
     ensures { result ≡ packed_row display cathode }
 {
     if cathode > 7 {
-        return PackedRow {
-            first: packed::NO_PINS,
-            middle: packed::NO_PINS,
-            last: packed::NO_PINS,
-        };
+        return packed::NONE;
     }
+    let list = list(display);
     PackedRow {
-        first: first_pins(display, cathode),
-        middle: middle_pins(display),
-        last: last_pins(display),
+        first: first_pins(list.first, cathode),
+        ..list
     }
 }
 

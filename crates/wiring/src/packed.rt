@@ -1,9 +1,9 @@
 // The pins of a display's list, packed: the first six, those of O8 to O15, and those of O16 to O18. A pin's number where it is lit is 2, of a pin
 // that carries none 4.
-use crate::PackedPins;
+use crate::{PackedPins, PackedRow};
 
 // a1 a2 b c d1 d2
-pub const SIX_OF_SIXTEEN: PackedPins = PackedPins {
+const SIX_OF_SIXTEEN: PackedPins = PackedPins {
     lit: 0x020202020202,
     low: 0,
     high: 0x80 // a1
@@ -16,7 +16,7 @@ pub const SIX_OF_SIXTEEN: PackedPins = PackedPins {
 };
 
 // a none b c d none
-pub const SIX_OF_FOURTEEN: PackedPins = PackedPins {
+const SIX_OF_FOURTEEN: PackedPins = PackedPins {
     lit: 0x040202020402,
     low: 0,
     high: 0x80 // a
@@ -27,7 +27,7 @@ pub const SIX_OF_FOURTEEN: PackedPins = PackedPins {
 };
 
 // 1a none 1b 1c 1d 1dp
-pub const SIX_OF_PAIR: PackedPins = PackedPins {
+const SIX_OF_PAIR: PackedPins = PackedPins {
     lit: 0x020202020402,
     low: 0x40 // 1a
         | 0x20 << 16 // 1b
@@ -39,7 +39,7 @@ pub const SIX_OF_PAIR: PackedPins = PackedPins {
 };
 
 // e f g1 g2 h i j k of a 14- or 16-segment digit
-pub const MIDDLE_OF_WORD: PackedPins = PackedPins {
+const MIDDLE_OF_WORD: PackedPins = PackedPins {
     lit: 0x0202020202020202,
     low: 0x80 << 16 // g1
         | 0x40 << 24 // g2
@@ -53,7 +53,7 @@ pub const MIDDLE_OF_WORD: PackedPins = PackedPins {
 };
 
 // 1e 1f 1g 2a 2b 2c 2d 2e
-pub const MIDDLE_OF_PAIR: PackedPins = PackedPins {
+const MIDDLE_OF_PAIR: PackedPins = PackedPins {
     lit: 0x0202020202020202,
     low: 0x04 // 1e
         | 0x02 << 8 // 1f
@@ -67,7 +67,7 @@ pub const MIDDLE_OF_PAIR: PackedPins = PackedPins {
 };
 
 // l m dp
-pub const LAST_OF_WORD: PackedPins = PackedPins {
+const LAST_OF_WORD: PackedPins = PackedPins {
     lit: 0x020202,
     low: 0x02 // l
         | 0x01 << 8, // m
@@ -76,7 +76,7 @@ pub const LAST_OF_WORD: PackedPins = PackedPins {
 };
 
 // 2f 2g 2dp
-pub const LAST_OF_PAIR: PackedPins = PackedPins {
+const LAST_OF_PAIR: PackedPins = PackedPins {
     lit: 0x020202,
     low: 0,
     high: 0x02 // 2f
@@ -86,9 +86,34 @@ pub const LAST_OF_PAIR: PackedPins = PackedPins {
 };
 
 // No pin is driven.
-pub const NO_PINS: PackedPins = PackedPins {
+const NO_PINS: PackedPins = PackedPins {
     lit: 0,
     low: 0,
     high: 0,
     point: 0,
+};
+
+// The lists, and the row of a cathode above 7.
+pub const SIXTEEN: PackedRow = PackedRow {
+    first: SIX_OF_SIXTEEN,
+    middle: MIDDLE_OF_WORD,
+    last: LAST_OF_WORD,
+};
+
+pub const FOURTEEN: PackedRow = PackedRow {
+    first: SIX_OF_FOURTEEN,
+    middle: MIDDLE_OF_WORD,
+    last: LAST_OF_WORD,
+};
+
+pub const PAIR: PackedRow = PackedRow {
+    first: SIX_OF_PAIR,
+    middle: MIDDLE_OF_PAIR,
+    last: LAST_OF_PAIR,
+};
+
+pub const NONE: PackedRow = PackedRow {
+    first: NO_PINS,
+    middle: NO_PINS,
+    last: NO_PINS,
 };

@@ -1,5 +1,5 @@
 -- `blink::in_cycle` meets its contract. The invariant: what is left is below 2^k cycles, and has the same remainder. Assumes nothing.
-use Rattle.ground.proofs.Names.{◌*◌, ◌-◌, ◌%◌, ◌^◌, ◌<◌, ◌≤◌, ◌≡◌}
+use Rattle.ground.proofs.Names.{◌*◌, ◌%◌, ◌^◌, ◌<◌, ◌≤◌, ◌≡◌}
 use Rattle.blink.proofs.in_cycle.Given as goal
 
 abbrev pub invariant-loop-k : goal.invariant-loop-k

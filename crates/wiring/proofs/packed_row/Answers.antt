@@ -7,6 +7,4 @@ pub returns-then-cathode-gt7 : goal.returns-then-cathode-gt7
 returns-then-cathode-gt7 c = rw (le-ltb c.args.cathode 8 c.if-cathode-gt7.true)
 
 pub returns : goal.returns
-returns c =
-    rw (c.first_pins.ensures, c.middle_pins.ensures, c.last_pins.ensures)
-    (packed_row_lem c.args.display c.args.cathode (omega arith))
+returns c = rw (c.first_pins.ensures, c.list-list.ensures) (packed_row_lem c.args.display c.args.cathode (omega arith))

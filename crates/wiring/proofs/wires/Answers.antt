@@ -4,7 +4,7 @@ use Rattle.wiring.proofs.Wired.{wired_row}
 use Rattle.wiring.proofs.wires.Goals as goal
 
 pub returns-then-cathode-lt8 : goal.returns-then-cathode-lt8
-returns-then-cathode-lt8 c = c.entries.ensures ∙ wired_row c.args.display _ _ c.if-cathode-lt8.true c.display_index-k.ensures.value
+returns-then-cathode-lt8 c = c.entries.ensures ∙ wired_row c.args.display _ _ c.if-cathode-lt8.true c.display_index.ensures.value
 
 pub returns-else-cathode-lt8 : goal.returns-else-cathode-lt8
 unfolding tabulate

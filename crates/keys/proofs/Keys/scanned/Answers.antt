@@ -21,5 +21,5 @@ returns c =
     at_places (λ j. Bytes (four s.a s.b s.c s.d j)) (bytes _ _ w.0) (bytes _ _ w.1.0) (bytes _ _ w.1.1.0) (bytes _ _ w.1.1.1.0) in
     let closed : (j : ℕ) → j < 4 → four c.args.a c.args.b c.args.c c.args.d j < 256 =
     at_places (λ j. four c.args.a c.args.b c.args.c c.args.d j < 256) (search rules) (search rules) (search rules) (search rules) in
-    simp (c.unpacked.ensures, c.scanned-new.ensures, c.raised_or-interrupt.ensures, c.raises.ensures, c.configured.ensures, c.joined.ensures, c.packed-old.ensures)
+    simp (c.unpacked.ensures, c.scanned.ensures, c.raised_or-interrupt.ensures, c.raises.ensures, c.configured.ensures, c.from_le_bytes.ensures, c.packed-old.ensures)
     (scanned_packed_lem s c.args.ports c.args.a c.args.b c.args.c c.args.d registers closed)

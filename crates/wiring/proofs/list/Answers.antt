@@ -1,5 +1,5 @@
--- `wiring::middle_pins` meets its contract. Assumes nothing.
-use Rattle.wiring.proofs.middle_pins.Goals as goal
+-- `wiring::list` meets its contract. Assumes nothing.
+use Rattle.wiring.proofs.list.Goals as goal
 
 pub returns-in-Sixteen : goal.returns-in-Sixteen
 returns-in-Sixteen c = simp c.in-Sixteen.is

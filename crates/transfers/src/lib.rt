@@ -218,8 +218,8 @@ fn put_answer(at: Option<usize>, byte: u8, bus: Bus) -> ByteAnswer
 }
 
 // The answer to a byte in the open transfer of a part.
-pub fn byte_open(d: Device, bus: Bus, byte: Byte) -> ByteAnswer
-    ensures { result ≡ byte_open byte d bus }
+pub fn byte_open(d: &Device, bus: Bus, byte: Byte) -> ByteAnswer
+    ensures { result ≡ byte_open byte d.now bus }
 {
     match (Use::from(bus.phase), byte) {
         (_, Byte::Given(v)) => put_answer(None, v, bus),
@@ -228,14 +228,14 @@ pub fn byte_open(d: Device, bus: Bus, byte: Byte) -> ByteAnswer
     }
 }
 
-// The record of that part after it.
-pub fn byte_left(d: Device, bus: Bus, byte: Byte) -> Device
-    ensures { result ≡ byte_left byte (use_at bus.phase) d }
+// What it leaves of that part's record.
+pub fn byte_left(d: &mut Device, bus: Bus, byte: Byte)
+    ensures { d.new ≡ byte_left byte (use_at bus.phase) d.old }
 {
     match (Use::from(bus.phase), byte) {
-        (Use::Command, Byte::Given(v)) => d.commanded(v),
-        (Use::Writing, Byte::Given(v)) => d.received(v),
-        (Use::Reading, Byte::Asked) => d.sent(),
-        _ => d,
+        (Use::Command, Byte::Given(v)) => *d = d.commanded(v),
+        (Use::Writing, Byte::Given(v)) => *d = d.received(v),
+        (Use::Reading, Byte::Asked) => *d = d.sent(),
+        _ => {}
     }
 }

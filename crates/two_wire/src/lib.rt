@@ -52,8 +52,8 @@ fn transfer(parts: &mut [Device], bus: Bus, straps: Straps, byte: Byte) -> ByteA
     match call.part_open() {
         Some(part) => {
             let d = &mut parts[part - 1];
-            let answer = transfers::byte_open(*d, bus, byte);
-            *d = transfers::byte_left(*d, bus, byte);
+            let answer = transfers::byte_open(d, bus, byte);
+            transfers::byte_left(d, bus, byte);
             answer
         }
         None => call.byte_free(byte),

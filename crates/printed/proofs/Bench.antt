@@ -7,7 +7,7 @@ use Rattle.device.specs.Taken.{taken}
 use Rattle.device.specs.Families.{takes, pinned, sound_record}
 use Rattle.calls.specs.CallRefusals.{families_below, all_sound}
 use Rattle.calls.specs.Outcome.{number, after, reply}
-use Rattle.printed.specs.Lines.{each}
+use Rattle.text.specs.Text.{each}
 use Rattle.printed.specs.Format.{items_after}
 use Rattle.printed.specs.Script.{run_lines, printed}
 use Rattle.printed.specs.Examples.{letter_rows, answer_rows, rows, line_rows, scan_rows, mark_rows, assumed_rows, malformed_rows, Printed, Examples}

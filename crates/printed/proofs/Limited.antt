@@ -6,7 +6,7 @@ use Rattle.printed.specs.Format.{items}
 use Rattle.printed.specs.Script.{items_printed, printed}
 use Rattle.printed.specs.Run.{room_for, ran_of, out_after}
 use Rattle.printed.specs.Limits.{Limits}
-use Rattle.printed.specs.declared.Ran.{Ran}
+use Rattle.printed.specs.Ran.{Ran}
 
 too_long : (s : List ℕ) → 65536 < length s → printed s ≡ refusal_line 9
 unfolding printed

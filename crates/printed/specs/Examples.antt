@@ -3,7 +3,8 @@
 -- Assumes nothing.
 use Rattle.std.specs.Prelude.{ℕ, List, [], ◌∷◌, ◌++◌, map, ◌≡◌, replicate}
 use Rattle.ground.specs.Lists.{Agree}
-use Rattle.printed.specs.Lines.{each, pin_text, answer_line, refusal_line}
+use Rattle.text.specs.Text.{each}
+use Rattle.printed.specs.Lines.{pin_text, answer_line, refusal_line}
 use Rattle.printed.specs.Script.{printed}
 use Rattle.printed.specs.ByteByByte.{entry}
 

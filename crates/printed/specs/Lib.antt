@@ -1,6 +1,7 @@
 pub mod Lines
 pub mod Format
 pub mod Script
+pub mod Ran
 pub mod Run
 pub mod Limits
 pub mod ByteByByte

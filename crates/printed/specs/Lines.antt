@@ -3,19 +3,11 @@
 -- Assumes nothing.
 use Rattle.std.specs.Prelude.{ℕ, ◌+◌, ◌/◌, ◌%◌, List, [], ◌∷◌, ◌++◌, eqb, ltb, take}
 use Rattle.ground.specs.Choice.{if}
+use Rattle.text.specs.Text.{each, digit}
 use Rattle.refusals.specs.Refusals.{bytes_for}
 use Rattle.display.specs.Pins.{pin_code}
 use Rattle.display.specs.declared.Pin.TheVariants.{Cathode, Lit, Unlit}
 use Rattle.calls.specs.Calls.{Call, access, give, ask, ask_chain}
-
--- the text of each element, one after another
-unfoldable pub each : (ℕ → List ℕ) → List ℕ → List ℕ
-each f [] = []
-each f (x ∷ xs) = f x ++ each f xs
-
--- a digit, 0 to 9
-abbrev pub digit : ℕ → ℕ
-digit v = 48 + v % 10
 
 -- in decimal, and the line's end; chains and numbers have at most two digits (`calls::order`)
 abbrev pub decimal : ℕ → List ℕ

@@ -1,9 +1,11 @@
 -- Believed: DECISIONS 53, a script run into lent room: what the call leaves there. 5 is tested before document 01's 9.
 -- Assumes nothing.
-use Rattle.std.specs.Prelude.{ℕ, ◌+◌, ◌*◌, List, ◌++◌, eqb, ltb, length, drop}
+use Rattle.std.specs.Prelude.{ℕ, ◌+◌, ◌*◌, List, ◌++◌, Result, Ok, Err, eqb, ltb, length, drop}
 use Rattle.ground.specs.Choice.{if}
+use Rattle.refusals.specs.Numbers.{number_by}
+use Rattle.refusals.specs.declared.Refusal.{Refusal}
 use Rattle.printed.specs.Script.{longest, printed}
-use Rattle.printed.specs.declared.Ran.{Ran}
+use Rattle.printed.specs.Ran.{Ran}
 
 -- room that always suffices, by the script's length: a record prints at most four bytes for each of its own
 abbrev pub room_for : ℕ → ℕ
@@ -19,6 +21,11 @@ ran_of s out =
     if (eqb (run_number (length s) (length out)) 0)
     (record { number = 0; length = length (printed s) })
     (record { number = 5; length = 0 })
+
+-- the same, of a call that gives how many bytes are printed, or why it is refused
+abbrev pub ran_by : Result ℕ Refusal → Ran
+ran_by (Ok n) = record { number = 0; length = n }
+ran_by (Err refusal) = record { number = number_by refusal; length = 0 }
 
 -- the room after it: what is printed, and the bytes after it as they were; where refused nothing changes
 abbrev pub out_after : List ℕ → List ℕ → List ℕ

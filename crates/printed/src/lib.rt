@@ -5,13 +5,6 @@ ghost use Rattle.printed.specs.Limits.{Limits};
 ghost use Rattle.printed.specs.ByteByByte.{ByteByByte};
 ghost use Rattle.printed.specs.Examples.{Examples};
 
-// What running a script leaves beside the room: its number, and how many bytes were printed.
-#[derive(Clone, Copy)]
-pub struct Ran {
-    pub number: u8,
-    pub length: usize,
-}
-
 // A theorem: what a script's length and a run's room decide.
 pub fn limits()
     ensures { Limits }

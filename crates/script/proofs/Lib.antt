@@ -1,5 +1,4 @@
-pub mod RoomLaws
-pub mod FormatLaws
+pub mod LineLaws
 pub mod RunLaws
 pub mod LoopLaws
 pub mod StartLaws

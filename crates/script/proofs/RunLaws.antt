@@ -1,26 +1,24 @@
 -- The calls on a row by value, as the calls on the chain of its records.
 -- Assumes nothing.
-use Rattle.ground.proofs.Names.{ℕ, zero, suc, ◌+◌, ◌-◌, ◌*◌, ◌≤◌, arith, le_of_suc-le-suc, Bool, true, false, List, [], ◌∷◌, ◌++◌, ◌≡◌, refl, sym, ap, ◌∙◌, eqb, length, take, drop, replicate, length-append, length-take, length-drop, take-append-drop, length-take-le, take_all, take_at, ne_eqb, if}
+use Rattle.ground.proofs.Names.{ℕ, ◌+◌, ◌<◌, ◌≤◌, arith, List, [], ◌∷◌, ◌≡◌, refl, sym, ◌∙◌, length, take, length-append, length-take, ne_eqb}
 use Rattle.refusals.specs.Refusals.{bytes_for}
 use Rattle.refusals.proofs.RefusalLaws.{size_served as sizes-fit}
-use Rattle.device.specs.PowerUp.{power_up, fresh_chain}
-use Rattle.device.specs.declared.Device.{Device}
 use Rattle.calls.specs.Calls.{Question, Call, access, give, ask, ask_chain}
-use Rattle.calls.specs.Outcome.{number, after}
+use Rattle.calls.specs.Outcome.{number}
 use Rattle.calls.proofs.Accepted.{number_says}
-use Rattle.calls.proofs.Records.{length_after}
-use Rattle.row.specs.Row.{fresh, records, number_on, reply_on, done_on, shown_on}
+use Rattle.row.specs.Row.{records, number_on, reply_on, done_on, shown_on}
 use Rattle.row.specs.declared.Row.{Row}
 use Rattle.row.specs.declared.Done.{Done}
 use Rattle.row.specs.declared.Shown.{Shown}
-use Rattle.printed.specs.Lines.{each, hex_byte, pin_text, answer_line, mark_letter, show_line, refusal_line, line_for}
+use Rattle.text.specs.Text.{each}
+use Rattle.text.specs.Written.{Written}
+use Rattle.text.proofs.Texts.{length_each}
+use Rattle.printed.specs.Lines.{pin_text, answer_line, mark_letter, show_line, refusal_line, line_for}
 use Rattle.printed.specs.Script.{named_mark}
-use Rattle.script.specs.Progress.{Written, Obeyed}
-use Rattle.script.proofs.RoomLaws.{decimal_short, length_each}
-
--- a part of some bytes to their end
-pub to_end : (k : ℕ) (l : List ℕ) → take (length l - k) (drop k l) ≡ drop k l
-to_end k l = take_all (length l - k) (drop k l) (rw length-drop (omega arith))
+use Rattle.script.specs.Progress.{Obeyed}
+use Rattle.script_records.proofs.RowLaws.{ask_leaves}
+use Rattle.calls.proofs.InOrder.{order}
+use Rattle.script.proofs.LineLaws.{decimal_short, answer_length}
 
 -- an access that is served has at most 4,096 clocks, and bytes for them
 pub access_fits : (r : Row) (c : ℕ) (sent room : List ℕ) → number_on r (access c sent room) ≡ 0 → (c ≤ 4096) × (bytes_for c ≤ length sent)
@@ -28,37 +26,15 @@ access_fits r c sent room z =
     let f = sizes-fit c (length sent) (length room) (number_says (access c sent room) (records r) z).bytes in
     (f.0, f.1)
 
--- a question leaves the row as it is
-pub ask_leaves : (r : Row) (j : ℕ) (q : Question) → (done_on r (ask j q)).row ≡ r
-unfolding after
-ask_leaves r j q = go (eqb (number (ask j q) (records r)) 0)
-  where
-    go : (b : Bool) → ◌≡◌ {A = Row} (record { n = r.n; devices = if b (records r) (records r) ++ drop r.n r.devices }) r
-    go true = rw take-append-drop
-    go false = rw take-append-drop
+-- a call's number has at most two digits
+pub number_small : (r : Row) (q : Call) → number_on r q < 100
+number_small r q = omega (arith, order.most q (records r))
 
-module _ (r : Row) (small : r.n ≤ length r.devices) where
-  length_records : length (records r) ≡ r.n
-  length_records = length-take-le r.n r.devices small
+pub small_done : (r : Row) (q : Call) (done : Done) → done ≡ done_on r q → done.number < 100
+small_done r q done e = rw e (number_small r q)
 
-  -- the chain after it
-  pub records_after : (q : Call) → records (done_on r q).row ≡ after q (records r)
-  records_after q = take_at (after q (records r)) (drop r.n r.devices) r.n (length_after q (records r) ∙ length_records)
-
-  -- and it has as many records as before
-  pub row_wide : (q : Call) → (done_on r q).row.n ≤ length (done_on r q).row.devices
-  row_wide q =
-      let l : length (after q (records r)) ≡ r.n = length_after q (records r) ∙ length_records in
-      rw (length-append, l) (omega arith)
-
--- a row at power-up
-pub fresh_records : (n : ℕ) → n ≤ 16 → records (fresh n) ≡ fresh_chain n
-fresh_records n h = go n 16 h
-  where
-    go : (n m : ℕ) → n ≤ m → take n (replicate m power_up) ≡ replicate n power_up
-    go zero m h = refl
-    go (suc n) zero h = absurd (omega arith)
-    go (suc n) (suc m) h = ap (λ (ds : List Device). power_up ∷ ds) (go n m (le_of_suc-le-suc h))
+pub small_shown : (r : Row) (j : ℕ) (q : Question) (a : Shown) → a ≡ shown_on r j q → a.number < 100
+small_shown r j q a e = rw e (number_small r (ask j q))
 
 -- a refused call of any kind prints its number
 refused_line : (q : Call) (number : ℕ) (back : List ℕ) (mark : ℕ) → (number ≡ 0 → ⊥) → line_for q number back mark ≡ refusal_line number
@@ -66,11 +42,6 @@ refused_line (access c sent room) number back mark h = rw (ne_eqb number 0 h)
 refused_line (give j s) number back mark h = rw (ne_eqb number 0 h)
 refused_line (ask j q) number back mark h = rw (ne_eqb number 0 h)
 refused_line (ask_chain q) number back mark h = rw (ne_eqb number 0 h)
-
--- an answer's line
-answer_length : (bs : List ℕ) → length (answer_line bs) ≤ 3 + 2 * length bs
-answer_length [] = omega arith
-answer_length (b ∷ bs) = simp length-append (omega (arith, length_each hex_byte 2 (λ x. refl) (b ∷ bs)))
 
 module _ (r : Row) (q : Call) (size at : ℕ) (out out' : List ℕ) (done : Done) (e : done ≡ done_on r q) where
   same_number : done.number ≡ number_on r q

@@ -1,57 +1,27 @@
 // The lines that a run prints, written into lent room from a place on. Each function gives back the place after its line.
 ghost use Rattle.std.specs.Prelude.{◌+◌, ◌*◌, ◌<◌, ◌≤◌, ◌≡◌, length};
-ghost use Rattle.printed.specs.Lines.{digit as digit_of, decimal as decimal_of, chain_line, refusal_line, hex_digit, hex_byte, pin_text, each, answer_line, letter as letter_of, mark_letter, show_line};
-ghost use Rattle.script.specs.Progress.{Written};
+ghost use Rattle.text.specs.Text.{each};
+ghost use Rattle.text.specs.Written.{Written};
+ghost use Rattle.printed.specs.Lines.{chain_line, refusal_line, hex_digit, hex_byte, answer_line, letter as letter_of, mark_letter, show_line};
 
-// Some bytes as they are.
-fn text(bytes: &[u8], out: &mut [u8], at: usize) -> usize
-    requires { at + length bytes.now ≤ length out.old }
-    ensures { Written bytes.now at out.old out.new result }
-{
-    let mut place = at;
-    let mut i = 0;
-    while i < bytes.len() {
-        out[place] = bytes[i];
-        place += 1;
-        i += 1;
-    }
-    place
-}
-
-// A decimal digit, the last of v.
-fn digit(v: usize) -> u8
-    ensures { result ≡ digit_of v }
-{
-    (48 + v % 10) as u8
-}
-
-// A number of at most two digits, and the line's end.
-fn decimal(n: usize, out: &mut [u8], at: usize) -> usize
-    requires { at + length (decimal_of n) ≤ length out.old }
-    ensures { Written (decimal_of n) at out.old out.new result }
-{
-    if n < 10 {
-        return text(&[digit(n), b'\n'], out, at);
-    }
-    text(&[digit(n / 10), digit(n), b'\n'], out, at)
-}
+use text::{decimal, put};
 
 // `chain n`.
 pub(crate) fn chain_line(n: usize, out: &mut [u8], at: usize) -> usize
-    requires { at + 9 ≤ length out.old }
+    requires { (n < 100) × (at + 9 ≤ length out.old) }
     ensures { Written (chain_line n) at out.old out.new result }
 {
-    let end = text(b"chain ", out, at);
-    decimal(n, out, end)
+    let start = put(b"chain ", out, at);
+    let end = decimal(n as u64, out, start);
+    put(b"\n", out, end)
 }
 
 // `R` and a refusal's number.
 pub(crate) fn refusal_line(number: u8, out: &mut [u8], at: usize) -> usize
-    requires { at + length (refusal_line number) ≤ length out.old }
+    requires { (number < 100) × (at + length (refusal_line number) ≤ length out.old) }
     ensures { Written (refusal_line number) at out.old out.new result }
 {
-    let end = text(b"R ", out, at);
-    decimal(number as usize, out, end)
+    script_records::refusal_line(number, out, at)
 }
 
 // An upper-case hex digit.
@@ -59,7 +29,7 @@ fn hex_digit(v: u8) -> u8
     requires { v < 16 }
     ensures { result ≡ hex_digit v }
 {
-    if v < 10 { 48 + v } else { 55 + v }
+    if v < 10 { b'0' + v } else { 55 + v }
 }
 
 // Bytes in hex.
@@ -68,13 +38,8 @@ fn hex_bytes(bytes: &[u8], out: &mut [u8], at: usize) -> usize
     ensures { Written (each hex_byte bytes.now) at out.old out.new result }
 {
     let mut place = at;
-    let mut i = 0;
-    while i < bytes.len() {
-        let b = bytes[i];
-        out[place] = hex_digit(b / 16);
-        out[place + 1] = hex_digit(b % 16);
-        place += 2;
-        i += 1;
+    for b in bytes {
+        place = put(&[hex_digit(b / 16), hex_digit(b % 16)], out, place);
     }
     place
 }
@@ -84,12 +49,12 @@ pub(crate) fn answer_line(bytes: &[u8], out: &mut [u8], at: usize) -> usize
     requires { at + 2 * length bytes.now + 3 ≤ length out.old }
     ensures { Written (answer_line bytes.now) at out.old out.new result }
 {
-    if bytes.len() == 0 {
-        return text(b"A\n", out, at);
+    if bytes.is_empty() {
+        return put(b"A\n", out, at);
     }
-    let start = text(b"A ", out, at);
+    let start = put(b"A ", out, at);
     let end = hex_bytes(bytes, out, start);
-    text(b"\n", out, end)
+    put(b"\n", out, end)
 }
 
 // A pin's letter.
@@ -104,21 +69,6 @@ fn letter(pin: u8) -> u8
     }
 }
 
-// The letters of nineteen pins.
-fn letters(pins: [u8; 19], out: &mut [u8], at: usize) -> usize
-    requires { at + 19 ≤ length out.old }
-    ensures { Written (each pin_text pins) at out.old out.new result }
-{
-    let mut place = at;
-    let mut p = 0;
-    while p < 19 {
-        out[place] = letter(pins[p]);
-        place += 1;
-        p += 1;
-    }
-    place
-}
-
 // The answer mark's letter.
 fn mark_letter(mark: u8) -> u8
     ensures { result ≡ mark_letter mark }
@@ -131,7 +81,7 @@ pub(crate) fn show_line(pins: [u8; 19], mark: u8, out: &mut [u8], at: usize) -> 
     requires { at + 24 ≤ length out.old }
     ensures { Written (show_line pins mark) at out.old out.new result }
 {
-    let start = text(b"S ", out, at);
-    let end = letters(pins, out, start);
-    text(&[b' ', mark_letter(mark), b'\n'], out, end)
+    let start = put(b"S ", out, at);
+    let end = put(&pins.map(letter), out, start);
+    put(&[b' ', mark_letter(mark), b'\n'], out, end)
 }

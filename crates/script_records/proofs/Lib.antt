@@ -1,3 +1,4 @@
+pub mod PartLaws
 pub mod SizeLaws
 pub mod StartLaws
 pub mod RecordLaws

@@ -2,16 +2,20 @@
 #![tactic(auto)]
 
 pub mod format;
-mod table;
 
-ghost use Rattle.std.specs.Prelude.{◌≡◌};
+ghost use Rattle.std.specs.Prelude.{◌≡◌, IfSome, IfNone};
+ghost use Rattle.printed.specs.Format.{items};
 ghost use Rattle.text.specs.Written.{room_after, place_after};
 ghost use Rattle.row.specs.Row.{reply_on, done_on};
 ghost use Rattle.text.specs.Text.{refusal_line};
+ghost use Rattle.script_records.specs.Parts.{IsCall, Stops};
 ghost use Rattle.script_records.specs.Records.{Started, access_of, clocks_of, step_of};
 
-use format::{byte, record_size, word};
+use format::{Kind, Record, byte, first_record, word};
 use row::{Done, Row};
+
+// The longest script.
+pub const LONGEST: usize = 65536;
 
 // Where a run starts: the chain's length, and the place of the first record after a chain record.
 #[derive(Clone, Copy)]
@@ -27,18 +31,28 @@ const ASSUMED_CHAIN: usize = 4;
 pub fn start_of(script: &[u8]) -> Start
     ensures { Started script.now result }
 {
-    let size = record_size(script);
-    if size != 0 {
-        if byte(script, 2) == 1 {
-            return Start {
-                n: byte(script, 5) as usize,
-                from: size,
-            };
-        }
+    match first_record(script) {
+        Some(record) if record.kind == Kind::Chain => Start {
+            n: byte(record.body, 0) as usize,
+            from: 5 + record.body.len(),
+        },
+        _ => Start {
+            n: ASSUMED_CHAIN,
+            from: 0,
+        },
     }
-    Start {
-        n: ASSUMED_CHAIN,
-        from: 0,
+}
+
+// The record at the start of some bytes, where a run obeys it: it is well-formed, and no chain record.
+pub fn first_call(s: &[u8]) -> Option<Record<'_>>
+    ensures call { IfSome result (λ r. IsCall s.now r.kind r.body.now r.rest.now) }
+    ensures stop { IfNone result (Stops (items s.now)) }
+{
+    let call = first_record(s)?;
+    if call.kind == Kind::Chain {
+        None
+    } else {
+        Some(call)
     }
 }
 
@@ -47,11 +61,8 @@ pub fn access(row: Row, body: &[u8], room: &mut [u8]) -> Done
     ensures done { result ≡ done_on row (access_of body.now room.old) }
     ensures answer { room.new ≡ reply_on row (access_of body.now room.old) }
 {
-    let clocks = word(body, 0);
-    if body.len() < 2 {
-        return row.access(clocks, &body[..0], room);
-    }
-    row.access(clocks, &body[2..], room)
+    let bits = body.get(2..).unwrap_or(&[]);
+    row.access(word(body, 0), bits, room)
 }
 
 // A scan, pin levels or clocks, by their record's kind, 3, 4 or 5, and body.

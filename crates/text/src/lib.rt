@@ -18,14 +18,9 @@ pub fn put(bytes: &[u8], out: &mut [u8], at: usize) -> usize
     if out.len() - at < bytes.len() {
         return at;
     }
-    let mut place = at;
-    let mut i = 0;
-    while i < bytes.len() {
-        out[place] = bytes[i];
-        place += 1;
-        i += 1;
-    }
-    place
+    let end = at + bytes.len();
+    out[at..end].copy_from_slice(bytes);
+    end
 }
 
 // A number in decimal.
@@ -38,7 +33,7 @@ pub fn decimal(v: u64, out: &mut [u8], at: usize) -> usize
     let mut left = v;
     while 9 < left {
         digits[place] = (48 + left % 10) as u8;
-        left = left / 10;
+        left /= 10;
         place -= 1;
     }
     digits[place] = (48 + left % 10) as u8;

@@ -4,8 +4,8 @@ use Rattle.lit_time.specs.LitTime.{lit_time}
 use Rattle.lit_time_calls.proofs.TotalLaws.{added_same}
 use Rattle.lit_time_calls.proofs.add_times.Goals as goal
 
-pub overflow_add-totals : goal.overflow_add-totals
-overflow_add-totals c =
+pub overflow_add-totals-in-loop-d : goal.overflow_add-totals-in-loop-d
+overflow_add-totals-in-loop-d c =
     let l = c.loop-d in
     let time : get_or c.cathode_times-times.result l.d 0 ≡ lit_time c.args.device l.d c.args.table.now c.args.table.now c.args.clocks =
     ap (λ (x : List ℕ). get_or x l.d 0) (c.cathode_times-times.ensures.clocked c.requires.blink_bound.0) ∙ get_d_tabulate 8 _ 0 l.d (omega arith) in

@@ -3,18 +3,19 @@
 
 ghost use Rattle.std.specs.Prelude.{◌≡◌};
 ghost use Rattle.brightness.specs.Dark.{dark};
-ghost use Rattle.brightness.specs.Brightness.{own_nibble, nibble_of, sixteenths, ruled_to, brightness_of, ruler_of, ruler_code, brightness_answer};
+ghost use Rattle.brightness.specs.Brightness.{own_nibble, nibble_of, sixteenths, ruled_to, brightness_of, ruler_of, brightness_answer};
 ghost use Rattle.brightness.specs.Tables.{BrightnessTables};
 
 use device::Device;
+use refusals::Refusal;
 
 // What rules the brightness of a digit: nothing where refused, the global register, the digit's own nibble, display test.
 #[derive(Clone, Copy)]
 pub enum Ruler {
-    Nothing,
-    Global,
-    Own,
-    Test,
+    Nothing = 0,
+    Global = 1,
+    Own = 2,
+    Test = 3,
 }
 
 // An answer: its number, the brightness in sixteenths, and the number of what rules it.
@@ -61,7 +62,7 @@ fn nibble(device: Device, digit: u8) -> u8
 fn sixteenths(v: u8) -> u8
     ensures { result ≡ sixteenths v }
 {
-    if v < 14 { v + 1 } else { 15 }
+    v.min(14) + 1
 }
 
 // The sixteenths that a digit's ruler gives it; 7 in display test.
@@ -103,34 +104,21 @@ fn ruled_by(device: Device) -> Ruler
     }
 }
 
-// The number of what rules.
-fn ruler_code(ruler: Ruler) -> u8
-    ensures { result ≡ ruler_code ruler }
-{
-    match ruler {
-        Ruler::Nothing => 0,
-        Ruler::Global => 1,
-        Ruler::Own => 2,
-        Ruler::Test => 3,
-    }
-}
-
 // The brightness of a digit, 0 to 7 and then 0a to 7a, and what rules it; a digit above 15 is refused.
 pub fn brightness(device: Device, digit: usize) -> BrightnessAnswer
     ensures { result ≡ brightness_answer device digit }
 {
-    if digit < 16 {
-        BrightnessAnswer {
-            number: 0,
-            sixteenths: digit_sixteenths(device, digit as u8),
-            ruler: ruler_code(ruled_by(device)),
-        }
-    } else {
-        BrightnessAnswer {
-            number: 6,
+    if 16 <= digit {
+        return BrightnessAnswer {
+            number: Refusal::Argument as u8,
             sixteenths: 0,
-            ruler: 0,
-        }
+            ruler: Ruler::Nothing as u8,
+        };
+    }
+    BrightnessAnswer {
+        number: 0,
+        sixteenths: digit_sixteenths(device, digit as u8),
+        ruler: ruled_by(device) as u8,
     }
 }
 

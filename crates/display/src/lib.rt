@@ -11,28 +11,22 @@ ghost use Rattle.display.specs.Examples.{Examples};
 
 use device::Device;
 
-// A pin of a cathode.
+// A pin of a cathode, with its number in an answer.
 #[derive(Clone, Copy)]
 pub enum Pin {
-    NotDriven,
-    Cathode,
-    Lit,
-    Unlit,
-    NoSegment,
+    NotDriven = 0,
+    Cathode = 1,
+    Lit = 2,
+    Unlit = 3,
+    NoSegment = 4,
 }
 
 impl Pin {
-    // The number of a pin in an answer.
+    // A pin's number in an answer.
     pub fn number(self) -> u8
         ensures { result ≡ pin_code self }
     {
-        match self {
-            Pin::NotDriven => 0,
-            Pin::Cathode => 1,
-            Pin::Lit => 2,
-            Pin::Unlit => 3,
-            Pin::NoSegment => 4,
-        }
+        self as u8
     }
 }
 
@@ -48,8 +42,7 @@ pub struct SegmentAnswer {
 pub fn plane<'a>(device: Device, p0: &'a [u8], p1: &'a [u8], first: usize, last: usize) -> &'a [u8]
     ensures { result.now ≡ plane_part (shown_plane device) p0.now p1.now first last }
 {
-    let shown = device.shown();
-    blink::plane_part(shown, p0, p1, first, last)
+    blink::plane_part(device.shown(), p0, p1, first, last)
 }
 
 // A theorem: the pins by the wiring table are those pin by pin.

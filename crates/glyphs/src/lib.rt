@@ -1,37 +1,29 @@
 // The segments that a digit's byte lights: the hex font, direct control, and glyph words from lent tables.
 #![tactic(auto)]
 
-ghost use Rattle.std.specs.Prelude.{◌≡◌, ◌<◌, get_or};
-ghost use Rattle.glyphs.specs.Masks.{hex_font, hex_segments, seven_segments, pair_segments, glyph_segments, SegmentBySegment};
+ghost use Rattle.std.specs.Prelude.{◌≡◌, ◌<◌};
+ghost use Rattle.glyphs.specs.Masks.{hex_segments, seven_segments, pair_segments, glyph_segments, SegmentBySegment};
 ghost use Rattle.glyphs.specs.Tables.{GlyphTables};
 
 // Table 11: a to g of a character are bits 6 to 0 of its byte.
-const HEX_LOW: u64 = 0x7E // 0: a b c d e f
-    | 0x30 << 8 // 1: b c
-    | 0x6D << 16 // 2: a b d e g
-    | 0x79 << 24 // 3: a b c d g
-    | 0x33 << 32 // 4: b c f g
-    | 0x5B << 40 // 5: a c d f g
-    | 0x5F << 48 // 6: a c d e f g
-    | 0x70 << 56; // 7: a b c
-
-const HEX_HIGH: u64 = 0x7F // 8: a b c d e f g
-    | 0x7B << 8 // 9: a b c d f g
-    | 0x77 << 16 // A: a b c e f g
-    | 0x1F << 24 // B: c d e f g
-    | 0x4E << 32 // C: a d e f
-    | 0x3D << 40 // D: b c d e g
-    | 0x4F << 48 // E: a d e f g
-    | 0x47 << 56; // F: a e f g
-
-// A character of the hex font. The font is two words, since a constant array is copied at each read of it.
-fn hex_font(k: u8) -> u8
-    requires { k < 16 }
-    ensures { result ≡ get_or hex_font k 0 }
-{
-    let word = if k < 8 { HEX_LOW } else { HEX_HIGH };
-    ((word >> (8 * (k % 8))) % 256) as u8
-}
+const HEX_FONT: [u8; 16] = [
+    0x7E, // 0: a b c d e f
+    0x30, // 1: b c
+    0x6D, // 2: a b d e g
+    0x79, // 3: a b c d g
+    0x33, // 4: b c f g
+    0x5B, // 5: a c d f g
+    0x5F, // 6: a c d e f g
+    0x70, // 7: a b c
+    0x7F, // 8: a b c d e f g
+    0x7B, // 9: a b c d f g
+    0x77, // A: a b c e f g
+    0x1F, // B: c d e f g
+    0x4E, // C: a d e f
+    0x3D, // D: b c d e g
+    0x4F, // E: a d e f g
+    0x47, // F: a e f g
+];
 
 // The segments a to g of a hex digit as bits 6 to 0: none where D6 to D0 are 0010000.
 fn hex_segments(byte: u8) -> u8
@@ -40,7 +32,7 @@ fn hex_segments(byte: u8) -> u8
     if byte % 128 == 16 {
         0
     } else {
-        hex_font(byte % 16)
+        HEX_FONT[(byte % 16) as usize]
     }
 }
 

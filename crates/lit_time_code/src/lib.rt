@@ -1,24 +1,16 @@
 // The lit time of a MAX6954's cathodes by value: of some clocks those at which each plane is shown, times what the cathode shows under it.
 #![tactic(auto)]
 
-ghost use Rattle.std.specs.Prelude.{◌^◌, ◌<◌, ◌≤◌, min, ◌≡◌};
-ghost use Rattle.std.specs.Int.Count.{ones};
+ghost use Rattle.std.specs.Prelude.{◌+◌, ◌^◌, ◌<◌, ◌≤◌, ◌≡◌};
 ghost use Rattle.ground.specs.Lists.{tabulate};
 ghost use Rattle.brightness.specs.Brightness.{brightness_of};
 ghost use Rattle.lit_time.specs.LitTime.{lit_time};
 ghost use Rattle.lit_time.specs.Counted.{p0_below};
-ghost use Rattle.lit_time.specs.Closed.{p0_of, first_mask, second_mask, weight_by, time_by};
+ghost use Rattle.lit_time.specs.Closed.{byte_in, p0_of, first_mask, second_mask, weight_by, weight_in, time_by};
 
 use device::Device;
 use wiring::Display;
 use words::Plane;
-
-// The smaller of two numbers.
-fn smaller(a: u64, b: u64) -> u64
-    ensures { result ≡ min a b }
-{
-    if a < b { a } else { b }
-}
 
 // Of the counts below n, not brought below a cycle, those in the P0 phase.
 fn p0_below(fast: bool, n: u64) -> u64
@@ -26,9 +18,9 @@ fn p0_below(fast: bool, n: u64) -> u64
     ensures { result ≡ p0_below fast n }
 {
     if fast {
-        n / 2000000 * 1000000 + smaller(n % 2000000, 1000000)
+        n / 2000000 * 1000000 + (n % 2000000).min(1000000)
     } else {
-        n / 4000000 * 2000000 + smaller(n % 4000000, 2000000)
+        n / 4000000 * 2000000 + (n % 4000000).min(2000000)
     }
 }
 
@@ -53,37 +45,18 @@ fn sixteenths(device: Device, digit: usize) -> u32
     requires { digit < 16 }
     ensures { (result ≡ brightness_of device digit) × (result ≤ 15) }
 {
-    let answer = brightness::brightness(device, digit);
-    answer.sixteenths as u32
+    brightness::brightness(device, digit).sixteenths as u32
 }
 
-// The bits of a display's segments that have the brightness of digit d.
-fn first_mask(display: Display) -> u32
-    ensures { result ≡ first_mask display }
+// The bits of a display's segments that have the brightness of digit d, and of those that have that of digit da.
+fn masks(display: Display) -> (u32, u32)
+    ensures { result ≡ (first_mask display, second_mask display) }
 {
     match display {
-        Display::Sixteen => 0x1FFFF,
-        Display::Fourteen => 0x1BBFF,
-        Display::SevenPair => 0xFF,
+        Display::Sixteen => (0x1FFFF, 0),
+        Display::Fourteen => (0x1BBFF, 0),
+        Display::SevenPair => (0xFF, 0xFF00),
     }
-}
-
-// And of those that have the brightness of digit da.
-fn second_mask(display: Display) -> u32
-    ensures { result ≡ second_mask display }
-{
-    match display {
-        Display::Sixteen => 0,
-        Display::Fourteen => 0,
-        Display::SevenPair => 0xFF00,
-    }
-}
-
-// How many bits are set.
-fn ones_of(v: u32) -> u32
-    ensures { (result ≡ ones v) × (result ≤ 32) }
-{
-    u32::count_ones(v)
 }
 
 // Lit segments times sixteenths.
@@ -92,9 +65,29 @@ fn weight(display: Display, segments: u32, first: u32, second: u32) -> u32
     requires second_bound { second ≤ 15 }
     ensures { (result ≡ weight_by display segments first second) × (result ≤ 960) }
 {
-    let own = ones_of(first_mask(display) & segments);
-    let other = ones_of(second_mask(display) & segments);
-    own * first + other * second
+    let (own, other) = masks(display);
+    (own & segments).count_ones() * first + (other & segments).count_ones() * second
+}
+
+// Lit segments times sixteenths of a cathode where a plane is shown.
+fn weight_in(device: Device, plane: Plane, cathode: usize, font14: &[u16], font16: &[u16]) -> u32
+    requires { cathode < 8 }
+    ensures value { result ≡ weight_in device plane cathode font14.now font16.now }
+    ensures upper_bound { result ≤ 960 }
+    ensures bytes { (byte_in device plane cathode < 256) × (byte_in device plane (cathode + 8) < 256) }
+{
+    let digit = cathode as u8;
+    let planes = device.registers.planes;
+    let byte = planes.digit(plane, digit);
+    let a = planes.digit(plane, digit + 8);
+    let controls = device.registers.controls;
+    let display = shown_pins::display_by(controls.types, device.fitted, cathode);
+    let hex = shown_pins::bit_at(controls.decode as u32, cathode);
+    let test = controls.test % 2 == 1;
+    let shown = shown_pins::shown_segments(test, display, hex, font14, font16, byte, a);
+    let first = sixteenths(device, cathode);
+    let second = sixteenths(device, cathode + 8);
+    weight(display, shown, first, second)
 }
 
 // The lit time of a cathode over clocks given to its driver, of which p0 show plane P0.
@@ -111,23 +104,9 @@ fn cathode_time(
     ensures equation { result ≡ time_by device cathode font14.now font16.now clocks p0 }
     ensures clocked { device.registers.blink < 4000000 → p0 ≡ p0_of device clocks → result ≡ lit_time device cathode font14.now font16.now clocks }
 {
-    let digit = cathode as u8;
-    let planes = device.registers.planes;
-    let byte0 = planes.digit(Plane::P0, digit);
-    let a0 = planes.digit(Plane::P0, digit + 8);
-    let byte1 = planes.digit(Plane::P1, digit);
-    let a1 = planes.digit(Plane::P1, digit + 8);
-    let controls = device.registers.controls;
-    let display = shown_pins::display_by(controls.types, device.fitted, cathode);
-    let hex = shown_pins::bit_at(controls.decode as u32, cathode);
-    let test = controls.test % 2 == 1;
-    let first = sixteenths(device, cathode);
-    let second = sixteenths(device, cathode + 8);
-    let shown0 = shown_pins::shown_segments(test, display, hex, font14, font16, byte0, a0);
-    let shown1 = shown_pins::shown_segments(test, display, hex, font14, font16, byte1, a1);
-    let weight0 = weight(display, shown0, first, second);
-    let weight1 = weight(display, shown1, first, second);
-    p0 as u64 * weight0 as u64 + (clocks - p0) as u64 * weight1 as u64
+    let first = weight_in(device, Plane::P0, cathode, font14, font16);
+    let second = weight_in(device, Plane::P1, cathode, font14, font16);
+    p0 as u64 * first as u64 + (clocks - p0) as u64 * second as u64
 }
 
 // The lit times of a driver's eight cathodes over clocks given to it: in closed form, and clock by clock where the blink count is below a cycle.
@@ -136,11 +115,9 @@ pub fn cathode_times(device: Device, clocks: u32, font14: &[u16], font16: &[u16]
     ensures clocked { device.registers.blink < 4000000 → result ≡ tabulate 8 (λ d. lit_time device d font14.now font16.now clocks) }
 {
     let p0 = p0_clocks(device, clocks);
-    let mut times = [0u64; 8];
-    let mut d = 0;
-    while d < 8 {
+    let mut times = [0; 8];
+    for d in 0..8 {
         times[d] = cathode_time(device, d, font14, font16, clocks, p0);
-        d += 1;
     }
     times
 }

@@ -10,7 +10,7 @@ ghost use Rattle.wiring.specs.PackedRows.{byte_of};
 ghost use Rattle.display.specs.Cathode.{display_by};
 ghost use Rattle.display.specs.Pins.{pin_code, pin_at, segments_of};
 ghost use Rattle.display.specs.ByTable.{shown_segments};
-ghost use Rattle.shown_pins.specs.PackedPins.{ones, carried_by, nonzero_bytes, eight_pins, word_at, pins_of, pins_by};
+ghost use Rattle.shown_pins.specs.PackedPins.{ones, carried_by, nonzero_bytes, eight_pins, pins_of, pins_by};
 
 use device::Device;
 use display::SegmentAnswer;
@@ -67,20 +67,12 @@ pub fn shown_segments(
     }
 }
 
-// Byte i of a word, the lowest being byte 0.
-fn byte_of(word: u64, i: usize) -> u8
-    requires { i < 8 }
-    ensures { result ≡ byte_of word i }
-{
-    ((word >> (8 * i)) % 256) as u8
-}
-
 // Byte i of a word, eight times.
 fn repeated(word: u64, i: usize) -> u64
     requires { i < 8 }
     ensures { result ≡ byte_of word i * ones }
 {
-    byte_of(word, i) as u64 * ONES
+    word.to_le_bytes()[i] as u64 * ONES
 }
 
 // Those of some segments that eight pins carry: a pin's byte has the bit of its segment.
@@ -108,30 +100,14 @@ fn eight_pins(unlit: u64, pins: PackedPins) -> u64
     pins.lit | nonzero_bytes(carried(unlit, pins))
 }
 
-// The one of three words that has pin p.
-fn word_at(first: u64, middle: u64, last: u64, p: usize) -> u64
-    ensures { result ≡ word_at first middle last p }
-{
-    if p < 8 {
-        first
-    } else if p < 16 {
-        middle
-    } else {
-        last
-    }
-}
-
 // The pins O0 to O18 of three words.
 fn pins_of(first: u64, middle: u64, last: u64) -> [u8; 19]
     ensures { result ≡ pins_of first middle last }
 {
     let mut pins = [0; 19];
-    let mut p = 0;
-    while p < 19 {
-        let word = word_at(first, middle, last, p);
-        pins[p] = byte_of(word, p % 8);
-        p += 1;
-    }
+    pins[..8].copy_from_slice(&first.to_le_bytes());
+    pins[8..16].copy_from_slice(&middle.to_le_bytes());
+    pins[16..].copy_from_slice(&last.to_le_bytes()[..3]);
     pins
 }
 
@@ -161,15 +137,8 @@ fn pins_shown(device: Device, cathode: usize, font14: &[u16], font16: &[u16]) ->
     let controls = device.registers.controls;
     let display = display_by(controls.types, device.fitted, cathode);
     let hex = bit_at(controls.decode as u32, cathode);
-    let segments = shown_segments(
-        controls.test % 2 == 1,
-        display,
-        hex,
-        font14,
-        font16,
-        byte,
-        a,
-    );
+    let test = controls.test % 2 == 1;
+    let segments = shown_segments(test, display, hex, font14, font16, byte, a);
     let row = wiring::packed_row(display, cathode);
     pins_by(!(segments as u64), row)
 }

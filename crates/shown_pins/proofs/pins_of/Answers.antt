@@ -1,16 +1,16 @@
--- `shown_pins::pins_of` meets its contract. The invariant: p pins are written, and the rest is as it was. Assumes nothing.
-use Rattle.ground.proofs.Names.{◌-◌, arith, append-nil, ◌∙◌, filled_start, filled_more, filled_all}
-use Rattle.wiring.specs.PackedRows.{byte_of}
+-- `shown_pins::pins_of` meets its contract: byte by byte. Assumes nothing.
+use Rattle.ground.proofs.Names.{div-one, tabulate}
 use Rattle.shown_pins.proofs.pins_of.Goals as goal
 
-pub loop-p-preserved : goal.loop-p-preserved
-loop-p-preserved c = filled_more _ c.loop-p.invariant (omega arith) (omega arith) (rw (c.byte_of.ensures, c.word_at-word.ensures))
-
-pub loop-p-init : goal.loop-p-init
-loop-p-init c = filled_start
-
-pub loop-p-smaller : goal.loop-p-smaller
-loop-p-smaller c = omega arith
-
 pub returns : goal.returns
-returns c = filled_all c.loop-p.invariant (omega arith) ∙ append-nil _
+unfolding tabulate
+returns c =
+    rw (
+      c.copy_from_slice.ensures.after,
+      c.copy_from_slice-2.ensures.after,
+      c.copy_from_slice-3.ensures.after,
+      c.to_le_bytes.ensures,
+      c.to_le_bytes-2.ensures,
+      c.to_le_bytes-3.ensures,
+    )
+    (simp div-one)

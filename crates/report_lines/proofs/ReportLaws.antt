@@ -1,7 +1,10 @@
 -- What a report prints, by the answer of the lit time.
 -- Assumes nothing.
-use Rattle.ground.proofs.Names.{ℕ, zero, suc, ◌+◌, ◌*◌, ◌/◌, ◌%◌, ◌≤◌, ◌<◌, arith, Bool, true, false, ◌&&◌, List, ◌++◌, ◌≡◌, refl, sym, ap, ◌∙◌, ltb, length, get_or, drop, ltb-true, le-ltb, and_right}
+use Rattle.ground.proofs.Names.{ℕ, zero, suc, ◌+◌, ◌*◌, ◌/◌, ◌%◌, ◌≤◌, ◌<◌, arith, Bool, true, false, ◌&&◌, List, ◌++◌, ◌≡◌, refl, sym, ap, ◌∙◌, ltb, length, get_or, get_or-take, take, length-take-le, drop, ltb-true, le-ltb, and_right}
 use Rattle.text.specs.Text.{refusal_line}
+use Rattle.refusals.specs.Numbers.{number_by}
+use Rattle.refusals.specs.declared.Refusal.{Refusal}
+use Rattle.refusals.specs.declared.Refusal.TheVariants.{Chain, Driver, Clocks, Sent, Room, Argument, Unsound, Record, Script, Clash, Address, Wanted, List as Listed, Lacked}
 use Rattle.printed.specs.Script.{longest}
 use Rattle.text.specs.Written.{Written}
 use Rattle.text.proofs.Room.{written_length, whole_written}
@@ -14,6 +17,29 @@ lines_ext : (m : ℕ) (f g : ℕ → List ℕ) → ((i : ℕ) → i < m → f i 
 unfolding lines_of
 lines_ext zero f g h = refl
 lines_ext (suc m) f g h = rw (lines_ext m f g (λ i l. h i (omega arith)), h m (omega arith))
+
+-- the lines of the first totals
+pub first_lines : (m : ℕ) (t : List ℕ) → m ≤ length t
+    → total_lines (length (take m t)) (λ i. get_or (take m t) i 0) ≡ total_lines m (λ i. get_or t i 0)
+first_lines m t h =
+    rw (length-take-le m t h) (lines_ext m _ _ (λ i b. ap (λ (v : ℕ). total_line (i / 8 + 1) (i % 8) v) (get_or-take m t i 0 b)))
+
+-- no row of the table is 0
+pub some_number : (refusal : Refusal) → number_by refusal ≡ 0 → ⊥
+some_number Chain e = absurd (omega (arith, e))
+some_number Driver e = absurd (omega (arith, e))
+some_number Clocks e = absurd (omega (arith, e))
+some_number Sent e = absurd (omega (arith, e))
+some_number Room e = absurd (omega (arith, e))
+some_number Argument e = absurd (omega (arith, e))
+some_number Unsound e = absurd (omega (arith, e))
+some_number Record e = absurd (omega (arith, e))
+some_number Script e = absurd (omega (arith, e))
+some_number Clash e = absurd (omega (arith, e))
+some_number Address e = absurd (omega (arith, e))
+some_number Wanted e = absurd (omega (arith, e))
+some_number Listed e = absurd (omega (arith, e))
+some_number Lacked e = absurd (omega (arith, e))
 
 -- a number that isn't 0 is 9 or 1, where there is room for 16 drivers
 pub report_refused : (s t : List ℕ) (r : LitTimeAnswer) → length t ≡ 128 → r ≡ lit_answer s (length t) → (r.number ≡ 0 → ⊥) → reported s ≡ refusal_line r.number

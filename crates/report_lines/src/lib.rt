@@ -21,17 +21,15 @@ fn total_line(driver: usize, cathode: usize, total: u64, out: &mut [u8], at: usi
     put(b"\n", out, fifth)
 }
 
-// The lines of the first totals.
-fn total_lines(totals: &[u64], count: usize, out: &mut [u8]) -> usize
-    requires { (count ≤ length totals.now) × (count ≤ 128) × (26 * count ≤ length out.old) }
-    ensures lines { Written (total_lines count (λ i. get_or totals.now i 0)) 0 out.old out.new result }
+// The lines of some totals.
+fn total_lines(totals: &[u64], out: &mut [u8]) -> usize
+    requires { (length totals.now ≤ 128) × (26 * length totals.now ≤ length out.old) }
+    ensures lines { Written (total_lines (length totals.now) (λ i. get_or totals.now i 0)) 0 out.old out.new result }
     ensures short { result ≤ length out.old }
 {
     let mut at = 0;
-    let mut i = 0;
-    while i < count {
-        at = total_line(i / 8 + 1, i % 8, totals[i], out, at);
-        i += 1;
+    for (i, total) in totals.iter().enumerate() {
+        at = total_line(i / 8 + 1, i % 8, *total, out, at);
     }
     at
 }
@@ -42,11 +40,8 @@ pub fn print_report(script: &[u8], out: &mut [u8; 3328]) -> usize
     ensures lines { out.new ≡ reported script.now ++ drop result out.old }
 {
     let mut totals = [0u64; 128];
-    let answer = lit_time_calls::max6954_lit_time(script, &mut totals);
-    let number = answer.number;
-    if number != 0 {
-        return script_records::refusal_line(number, out, 0);
+    match lit_time_calls::run(script, &mut totals) {
+        Ok(drivers) => total_lines(&totals[..8 * drivers], out),
+        Err(refusal) => script_records::refusal_line(u8::from(refusal), out, 0),
     }
-    let count = 8 * answer.drivers;
-    total_lines(&totals, count, out)
 }

@@ -1,6 +1,6 @@
 -- Text written into room, one text after another.
 -- Assumes nothing.
-use Rattle.ground.proofs.Names.{ℕ, suc, ◌+◌, ◌≤◌, ◌<◌, zero-add, add-zero, add-suc, suc-add, arith, List, [], ◌∷◌, ◌++◌, ◌≡◌, refl, sym, ◌∙◌, length, set, take, drop, drop-drop, length-append, sets, length-sets, sets-eq, append_assoc, le-leb, lt-leb}
+use Rattle.ground.proofs.Names.{ℕ, suc, ◌+◌, ◌≤◌, ◌<◌, zero-add, add-zero, add-suc, suc-add, arith, List, [], ◌∷◌, ◌++◌, ◌≡◌, sym, ◌∙◌, length, set, take, drop, drop-drop, length-append, sets, length-sets, sets-eq, append_assoc, le-leb, lt-leb}
 use borrow.Rule.Slice.PartMut.{put_mid}
 use Rattle.text.specs.Written.{Written, room_after, place_after}
 
@@ -10,16 +10,17 @@ pub written : {text : List ℕ} {at : ℕ} {out out' : List ℕ} {at' : ℕ} →
 unfolding room_after place_after
 written {text} {at} {out} p h = let t = le-leb (at + length text) (length out) h in record { bytes = rw t at p.1; place = rw t at p.0 }
 
--- and the other way
-pub put_there : {text : List ℕ} {at : ℕ} {out out' : List ℕ} {at' : ℕ} → Written text at out out' at' → at + length text ≤ length out
-    → (at' ≡ place_after text at out) × (out' ≡ room_after text at out)
-unfolding room_after place_after
-put_there {text} {at} {out} w h = let t = le-leb (at + length text) (length out) h in (rw t w.place, rw t w.bytes)
-
 -- a text copied over a part of the room
-pub put_part : (text : List ℕ) (at : ℕ) (out part : List ℕ) (n : ℕ) → at + length text ≤ length out → n ≡ length text → part ≡ text
-    → Written text at out (put_mid at n out part) (at + length text)
-put_part text at out part n h l e = record { bytes = rw (e, l, drop-drop (length text) at out) (sym (sets-eq text out at h ∙ append_assoc (take at out) text (drop (at + length text) out))); place = refl }
+pub put_place : (text : List ℕ) (at : ℕ) (out : List ℕ) → at + length text ≤ length out → at + length text ≡ place_after text at out
+unfolding place_after
+put_place text at out h = rw (le-leb (at + length text) (length out) h)
+
+pub put_room : (text : List ℕ) (at : ℕ) (out part : List ℕ) (n : ℕ) → at + length text ≤ length out → n ≡ length text → part ≡ text
+    → put_mid at n out part ≡ room_after text at out
+unfolding room_after
+put_room text at out part n h l e =
+    rw (le-leb (at + length text) (length out) h, e, l, drop-drop (length text) at out)
+    (sym (sets-eq text out at h ∙ append_assoc (take at out) text (drop (at + length text) out)))
 
 -- one that doesn't fit isn't
 pub left_out : (text : List ℕ) (at : ℕ) (out : List ℕ) → length out < at + length text → (at ≡ place_after text at out) × (out ≡ room_after text at out)

@@ -36,12 +36,6 @@ module _ {f : ℕ → List ℕ} {w : ℕ} {xs : List ℕ} {at : ℕ} {out : List
   unfolding each
   texts_all {i} s h = all_written _ _ _ _ _ (rw (drop_of_length-le xs h) at s.left)
 
--- bytes as they are
-pub each_self : (xs : List ℕ) → each (λ b. b ∷ []) xs ≡ xs
-unfolding each
-each_self [] = refl
-each_self (x ∷ xs) = rw (each_self xs)
-
 -- texts of one length
 pub length_each : (f : ℕ → List ℕ) (k : ℕ) → ((x : ℕ) → length (f x) ≡ k) → (xs : List ℕ) → length (each f xs) ≡ k * length xs
 unfolding each

@@ -1,6 +1,6 @@
 -- `text::put` meets its contract. Assumes nothing.
-use Rattle.ground.proofs.Names.{arith}
-use Rattle.text.proofs.Room.{put_there, put_part, left_out}
+use Rattle.ground.proofs.Names.{arith, rules}
+use Rattle.text.proofs.Room.{put_place, put_room, left_out}
 use Rattle.text.proofs.put.Goals as goal
 
 pub returns-then-out-at : goal.returns-then-out-at
@@ -12,5 +12,4 @@ returns-then-out-at-2 c = let a = c.args in let r = left_out a.bytes.now a.at a.
 pub returns : goal.returns
 returns c =
     let a = c.args in
-    let r = put_there (put_part a.bytes.now a.at a.out.now _ _ (omega arith) (omega arith) c.copy_from_slice.ensures.after) (omega arith) in
-    record { place = r.0; room = r.1 }
+    record { place = put_place a.bytes.now a.at a.out.now (omega arith); room = put_room a.bytes.now a.at a.out.now _ _ (omega arith) (omega arith) (search rules) }

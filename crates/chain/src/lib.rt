@@ -1,7 +1,11 @@
 // The calls on a chain of MAX6954, MAX6955 and MAX6957: a lent row of records, nearest the controller first. Drivers are counted from 1.
 #![tactic(auto)]
 
-ghost use Rattle.std.specs.Prelude.{◌≡◌, [], ◌∷◌, length};
+ghost use Rattle.std.specs.Prelude.{◌≡◌, ◌%◌, ◌&&◌, [], ◌∷◌, eqb, ltb, length, false};
+ghost use Rattle.std.specs.Result.{result_unwrap_or};
+ghost use Rattle.ground.specs.Choice.{if};
+ghost use Rattle.refusals.specs.Numbers.{number_of};
+ghost use Rattle.pass.specs.Found.{row_refusal};
 ghost use Rattle.device.specs.PowerUp.{power_up, power_up6957};
 ghost use Rattle.calls.specs.Calls.{access as access_call, give, ask, scan, levels as pin_levels, clocks as master_clocks, plane, plane_shown, segments, brightness, shown, interrupt, answer_mark, look_back, ports as ports_question, ask_chain, plan, plan_check};
 ghost use Rattle.calls.specs.Outcome.{outcome};
@@ -13,6 +17,7 @@ use device::Device;
 use display::SegmentAnswer;
 use look_back::LookBackAnswer;
 use planner::{PlanAnswer, PlanCheckAnswer};
+use refusals::Refusal;
 
 // A driver at power-up.
 pub fn max6954_power_up() -> Device
@@ -249,33 +254,58 @@ pub fn max6954_look_back(
     stopping_word::look_back(chain[at], plane, digit, words)
 }
 
+// Whether a call that asks the whole row is refused.
+fn row_outcome(chain: &[Device]) -> Result<(), Refusal>
+    ensures { number_of result ≡ row_refusal chain.now }
+{
+    match lent::row_refusal(chain) {
+        0 => Ok(()),
+        1 => Err(Refusal::Chain),
+        7 => Err(Refusal::Unsound),
+        _ => Err(Refusal::Lacked),
+    }
+}
+
 // The shortest list of accesses that leads to the wanted contents, 32 bytes for each driver, P0 then P1: into the front of the list.
 pub fn max6954_plan(chain: &[Device], wanted: &[u8], list: &mut [u16]) -> PlanAnswer
     ensures { outcome (ask_chain (plan wanted.now list.old)) chain.now ≡ record { number = result.number; records = chain.now; back = result.accesses ∷ list.new } }
 {
+    planner::plan_answer(planned(chain, wanted, list))
+}
+
+// How many accesses it has.
+fn planned(chain: &[Device], wanted: &[u8], list: &mut [u16]) -> Result<usize, Refusal>
+    ensures { outcome (ask_chain (plan wanted.now list.old)) chain.now ≡ record { number = number_of result; records = chain.now; back = result_unwrap_or result 0 ∷ list.new } }
+{
     let n = chain.len();
-    let early = lent::row_refusal(chain);
-    let own = planner::wanted_refusal(early, n, wanted.len());
-    let most = redraw::accesses(chain, own, wanted);
-    let number = planner::list_refusal(own, n, most, list.len());
-    redraw::write_list(chain, number, wanted, list, most);
-    planner::plan_answer(number, most)
+    row_outcome(chain)?;
+    planner::wanted_refusal(n, wanted.len())?;
+    let most = redraw::accesses(chain, wanted);
+    planner::list_refusal(n, most, list.len())?;
+    redraw::write_list(chain, wanted, list, most);
+    Ok(most)
 }
 
 // Whether a list of accesses leads to the wanted contents, and has no word that a redraw may not use.
 pub fn max6954_plan_check(chain: &[Device], wanted: &[u8], list: &[u16]) -> PlanCheckAnswer
     ensures { outcome (ask_chain (plan_check wanted.now list.now)) chain.now ≡ record { number = result.number; records = chain.now; back = result.accepted ∷ [] } }
 {
+    planner::check_answer(checked(chain, wanted, list), chain.len(), list.len())
+}
+
+// Whether each driver accepts its words.
+fn checked(chain: &[Device], wanted: &[u8], list: &[u16]) -> Result<bool, Refusal>
+    ensures { outcome (ask_chain (plan_check wanted.now list.now)) chain.now ≡ record { number = number_of result; records = chain.now; back = if (ltb 0 (length chain.now) && eqb (length list.now % length chain.now) 0 && result_unwrap_or result false) 1 0 ∷ [] } }
+{
     let n = chain.len();
-    let early = lent::row_refusal(chain);
-    let number = planner::wanted_refusal(early, n, wanted.len());
-    let each = redraw::accepted(chain, number, n, wanted, list);
-    planner::check_answer(number, n, list.len(), each)
+    row_outcome(chain)?;
+    planner::wanted_refusal(n, wanted.len())?;
+    Ok(redraw::accepted(chain, n, wanted, list))
 }
 
 // The bytes to send for one access of a list for n drivers.
 pub fn max6954_plan_bytes(n: usize, list: &[u16], access: usize, bytes: &mut [u8]) -> u8
     ensures { (result ≡ bytes_number n (length list.now) access (length bytes.old)) × (bytes.new ≡ bytes_after n list.now access bytes.old) }
 {
-    redraw::plan_bytes(n, list, access, bytes)
+    refusals::number(redraw::plan_bytes(n, list, access, bytes))
 }

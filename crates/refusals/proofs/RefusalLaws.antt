@@ -1,8 +1,15 @@
 -- The first number of a list that isn't 0, and what rows that gave 0 tell.
 --     first_zero, first-last, found-last, found-rest       a list of numbers
 --     size_served, segments-served, plane-served       what calls that are served have
+--     row_number                 no row of the table has the number 0
+--     served_number, refused_number       so a call is served where its number is 0
 -- Assumes nothing.
-use Rattle.ground.proofs.Names.{ℕ, ◌<◌, ◌≤◌, arith, Bool, true, false, ◌&&◌, List, [], ◌∷◌, ◌++◌, ◌≡◌, refl, sym, eqb, leb, ltb, length, eqb-true, eqb-false, leb-true, ltb-true, ltb-false, if, passed, and_left, and_right}
+use Rattle.ground.proofs.Names.{ℕ, ◌<◌, ◌≤◌, arith, Bool, true, false, true≢false, ◌&&◌, List, [], ◌∷◌, ◌++◌, ◌≡◌, refl, sym, eqb, leb, ltb, length, eqb-true, eqb-false, leb-true, ltb-true, ltb-false, if, passed, and_left, and_right}
+use Rattle.std.specs.Prelude.{Result, Ok, Err}
+use Rattle.std.specs.Result.{is_err}
+use Rattle.refusals.specs.Numbers.{number_by, number_of}
+use Rattle.refusals.specs.declared.Refusal.{Refusal}
+use Rattle.refusals.specs.declared.Refusal.TheVariants.{Chain, Driver, Clocks, Sent, Room, Argument, Unsound, Record, Script, Clash, Address, Wanted, List as ListRow, Lacked}
 use Rattle.refusals.specs.Refusals.{bytes_for, clocks_refusal, sent_refusal, room_refusal, segments_refusal, plane_refusal, first_of, size_refusal}
 
 -- the first number of a list that isn't 0 is 0: all are
@@ -81,3 +88,29 @@ plane_served p0 p1 first last e =
       digits = ltb-true _ _ (and_right (eqb (length p0) 16 && eqb (length p1) 16) (ltb last 16) u);
       range = leb-true _ _ (and_right (eqb (length p0) 16 && eqb (length p1) 16 && ltb last 16) (leb first last) t);
     }
+
+-- no row of the table has the number 0
+pub row_number : (r : Refusal) → number_by r ≡ 0 → ⊥
+row_number Chain e = absurd (omega (arith, e))
+row_number Driver e = absurd (omega (arith, e))
+row_number Clocks e = absurd (omega (arith, e))
+row_number Sent e = absurd (omega (arith, e))
+row_number Room e = absurd (omega (arith, e))
+row_number Argument e = absurd (omega (arith, e))
+row_number Unsound e = absurd (omega (arith, e))
+row_number Record e = absurd (omega (arith, e))
+row_number Script e = absurd (omega (arith, e))
+row_number Clash e = absurd (omega (arith, e))
+row_number Address e = absurd (omega (arith, e))
+row_number Wanted e = absurd (omega (arith, e))
+row_number ListRow e = absurd (omega (arith, e))
+row_number Lacked e = absurd (omega (arith, e))
+
+-- what was served has the number 0, and what was refused hasn't
+pub served_number : {A : Type 0} (o : Result A Refusal) → is_err o ≡ false → number_of o ≡ 0
+served_number (Ok x) e = refl
+served_number (Err r) e = absurd (true≢false e)
+
+pub refused_number : {A : Type 0} (o : Result A Refusal) → is_err o ≡ true → number_of o ≡ 0 → ⊥
+refused_number (Ok x) e = absurd (true≢false (sym e))
+refused_number (Err r) e = row_number r

@@ -1,7 +1,9 @@
 // The calls on a chain of MAX6954, MAX6955 and MAX6957: a lent row of records, nearest the controller first. Drivers are counted from 1.
 #![tactic(auto)]
 
-ghost use Rattle.std.specs.Prelude.{◌≡◌, ◌-◌, [], ◌∷◌, length, get_or, set};
+ghost use Rattle.std.specs.Prelude.{◌≡◌, ◌-◌, ◌%◌, ◌&&◌, [], ◌∷◌, eqb, ltb, length, get_or, set, false};
+ghost use Rattle.std.specs.Result.{result_unwrap_or};
+ghost use Rattle.ground.specs.Choice.{if};
 ghost use Rattle.refusals.specs.Numbers.{number_of};
 ghost use Rattle.device.specs.PowerUp.{power_up, power_up6957};
 ghost use Rattle.calls.specs.Calls.{access as access_call, give, ask, scan, levels as pin_levels, clocks as master_clocks, plane, plane_shown, segments, brightness, shown, interrupt, answer_mark, look_back, ports as ports_question, ask_chain, plan, plan_check};
@@ -244,29 +246,42 @@ pub fn max6954_look_back(
 pub fn max6954_plan(chain: &[Device], wanted: &[u8], list: &mut [u16]) -> PlanAnswer
     ensures { outcome (ask_chain (plan wanted.now list.old)) chain.now ≡ record { number = result.number; records = chain.now; back = result.accesses ∷ list.new } }
 {
+    planner::plan_answer(planned(chain, wanted, list))
+}
+
+// How many accesses it has.
+fn planned(chain: &[Device], wanted: &[u8], list: &mut [u16]) -> Result<usize, Refusal>
+    ensures { outcome (ask_chain (plan wanted.now list.old)) chain.now ≡ record { number = number_of result; records = chain.now; back = result_unwrap_or result 0 ∷ list.new } }
+{
     let n = chain.len();
-    let early = refusals::number(lent::row_refusal(chain));
-    let own = planner::wanted_refusal(early, n, wanted.len());
-    let most = redraw::accesses(chain, own, wanted);
-    let number = planner::list_refusal(own, n, most, list.len());
-    redraw::write_list(chain, number, wanted, list, most);
-    planner::plan_answer(number, most)
+    lent::row_refusal(chain)?;
+    planner::wanted_refusal(n, wanted.len())?;
+    let most = redraw::accesses(chain, wanted);
+    planner::list_refusal(n, most, list.len())?;
+    redraw::write_list(chain, wanted, list, most);
+    Ok(most)
 }
 
 // Whether a list of accesses leads to the wanted contents, and has no word that a redraw may not use.
 pub fn max6954_plan_check(chain: &[Device], wanted: &[u8], list: &[u16]) -> PlanCheckAnswer
     ensures { outcome (ask_chain (plan_check wanted.now list.now)) chain.now ≡ record { number = result.number; records = chain.now; back = result.accepted ∷ [] } }
 {
+    planner::check_answer(checked(chain, wanted, list), chain.len(), list.len())
+}
+
+// Whether each driver accepts its words.
+fn checked(chain: &[Device], wanted: &[u8], list: &[u16]) -> Result<bool, Refusal>
+    ensures { outcome (ask_chain (plan_check wanted.now list.now)) chain.now ≡ record { number = number_of result; records = chain.now; back = if (ltb 0 (length chain.now) && eqb (length list.now % length chain.now) 0 && result_unwrap_or result false) 1 0 ∷ [] } }
+{
     let n = chain.len();
-    let early = refusals::number(lent::row_refusal(chain));
-    let number = planner::wanted_refusal(early, n, wanted.len());
-    let each = redraw::accepted(chain, number, n, wanted, list);
-    planner::check_answer(number, n, list.len(), each)
+    lent::row_refusal(chain)?;
+    planner::wanted_refusal(n, wanted.len())?;
+    Ok(redraw::accepted(chain, n, wanted, list))
 }
 
 // The bytes to send for one access of a list for n drivers.
 pub fn max6954_plan_bytes(n: usize, list: &[u16], access: usize, bytes: &mut [u8]) -> u8
     ensures { (result ≡ bytes_number n (length list.now) access (length bytes.old)) × (bytes.new ≡ bytes_after n list.now access bytes.old) }
 {
-    redraw::plan_bytes(n, list, access, bytes)
+    refusals::number(redraw::plan_bytes(n, list, access, bytes))
 }

@@ -1,6 +1,9 @@
 -- One driver's words by the planes alone, word by word, and digits compared one by one.
 -- Assumes nothing.
-use Rattle.ground.proofs.Names.{ℕ, zero, suc, ◌+◌, ◌*◌, ◌/◌, ◌<◌, ◌≤◌, div-add-mod', zero-add, arith, Bool, true, false, ◌&&◌, List, ◌∷◌, ◌≡◌, refl, ap₂, ◌∙◌, eqb, length, get_or, drop, drop_of_length-le, drop-cons, ne_eqb, length_tabulate, get_d_tabulate}
+use Rattle.ground.proofs.Names.{ℕ, zero, suc, ◌+◌, ◌*◌, ◌-◌, ◌/◌, ◌<◌, div-eq_of_lt, add-one, suc-mul, zero-add, arith, Bool, true, false, ◌&&◌, List, [], ◌∷◌, ◌++◌, ◌≡◌, refl, ap, ap₂, ◌∙◌, eqb, if, length, get_or, length-append, List·getD-append, ne_eqb, tabulate, tabulate_ext}
+use Rattle.std.specs.Prelude.{Some, None}
+use Rattle.std.proofs.Math.Nat.{add-div_left}
+use Rattle.std.proofs.lemmas.List.{get_or-append_right}
 use Rattle.digits.specs.declared.Planes.{Planes}
 use Rattle.controls.specs.declared.Config.{Config}
 use Rattle.device.specs.Table15.{after_words}
@@ -11,7 +14,6 @@ use Rattle.plans.specs.Check.{below, same, accepted_words}
 use Rattle.plans.specs.Least.{total, need_by, need_at, plain}
 use Rattle.plans.specs.Act.{acted, act_of, drawn}
 use Rattle.plans.proofs.Act.{after_planes}
-use Rattle.plans.proofs.Lists.{place_lt}
 use Rattle.planner.specs.OneDriver.{from_planes}
 
 -- tests that are equal below n
@@ -54,25 +56,46 @@ words_planes d q ws = go (every (allowed d) ws) refl
     go true e = rw (after_planes ws d e)
     go false e = refl
 
--- the word of access a to place i: allowed, refused, or past the end
-module _ (c : Config) (q p : Planes) (list : List ℕ) (n i a : ℕ) where
-  module _ (at : ℕ) (h : a < length list / n) (e : at ≡ a * n + i) where
-    next : drop a (words_at n list i) ≡ get_or list at 0 ∷ drop (suc a) (words_at n list i)
-    next = rw (drop-cons (words_at n list i) a 0 (rw length_tabulate h), get_d_tabulate _ (λ b. get_or list (b * n + i) 0) 0 a h, e)
+-- a choice by a test, which was taken, or wasn't
+pub some_taken : (b : Bool) (p q : Planes) → if b (Some p) None ≡ Some q → (b ≡ true) × (p ≡ q)
+some_taken true p q e = (refl, cc)
+some_taken false p q e = cc
 
-    pub word_taken : allowed_by c (get_or list at 0) ≡ true
-        → from_planes c q p (drop a (words_at n list i)) ≡ from_planes c q (acted p (act_of (get_or list at 0))) (drop (suc a) (words_at n list i))
+pub none_taken : (b : Bool) (p : Planes) → if b (Some p) None ≡ None → b ≡ false
+none_taken true p e = cc
+none_taken false p e = refl
+
+-- the first of some values, and the others
+tabulate_first : (m : ℕ) (f : ℕ → ℕ) → tabulate (suc m) f ≡ f 0 ∷ tabulate m (λ a. f (suc a))
+unfolding tabulate
+tabulate_first zero f = refl
+tabulate_first (suc m) f = ap (λ (l : List ℕ). l ++ f (suc m) ∷ []) (tabulate_first m f)
+
+-- the words to place i of n: in a first access, and in those after it
+module _ (n i : ℕ) (h : i < n) where
+  pub words_next : (x rest : List ℕ) → length x ≡ n → words_at n (x ++ rest) i ≡ get_or x i 0 ∷ words_at n rest i
+  words_next x rest e =
+      let first : get_or (x ++ rest) (0 * n + i) 0 ≡ get_or x i 0 = let z : 0 * n + i ≡ i = omega arith in rw z (List·getD-append x rest 0 i (omega arith)) in
+      let others : (a : ℕ) → a < length rest / n → get_or (x ++ rest) (suc a * n + i) 0 ≡ get_or rest (a * n + i) 0 = λ a l.
+      let z : suc a * n + i - n ≡ a * n + i = omega (arith, suc-mul a n) in
+      get_or-append_right x rest n (suc a * n + i) 0 e (omega (arith, suc-mul a n)) ∙ rw z in
+      rw (length-append, e, add-div_left (length rest) {k = n} (omega arith), add-one, tabulate_first)
+      (ap₂ ◌∷◌ first (tabulate_ext (length rest / n) _ _ others))
+
+  pub words_none : (rest : List ℕ) → length rest < n → words_at n rest i ≡ []
+  unfolding tabulate
+  words_none rest e = rw (div-eq_of_lt e)
+
+  module _ (c : Config) (q p : Planes) where
+    pub word_taken : (x rest : List ℕ) → length x ≡ n → allowed_by c (get_or x i 0) ≡ true
+        → from_planes c q p (words_at n (x ++ rest) i) ≡ from_planes c q (acted p (act_of (get_or x i 0))) (words_at n rest i)
     unfolding every drawn
-    word_taken t = rw (next, t)
+    word_taken x rest e t = rw (words_next x rest e, t)
 
-    pub word_refused : allowed_by c (get_or list at 0) ≡ false → from_planes c q p (drop a (words_at n list i)) ≡ false
+    pub word_refused : (x rest : List ℕ) → length x ≡ n → allowed_by c (get_or x i 0) ≡ false → from_planes c q p (words_at n (x ++ rest) i) ≡ false
     unfolding every drawn
-    word_refused t = rw (next, t)
+    word_refused x rest e t = rw (words_next x rest e, t)
 
-  pub words_done : length list / n ≤ a → from_planes c q p (drop a (words_at n list i)) ≡ same p q
-  unfolding every drawn
-  words_done h = rw (drop_of_length-le (words_at n list i) {i = a} (rw length_tabulate h))
-
--- place i of access a is among m words
-pub place_in : (m n i : ℕ) → i < n → (a : ℕ) → a < m / n → a * n + i < m
-place_in m n i h a l = omega (arith, place_lt n a i h (m / n) l, div-add-mod' m n)
+    pub words_done : (rest : List ℕ) → length rest < n → from_planes c q p (words_at n rest i) ≡ same p q
+    unfolding every drawn
+    words_done rest e = rw (words_none rest e)

@@ -1,9 +1,13 @@
 -- Words put one after the other into a list of accesses.
 -- Assumes nothing.
-use Rattle.ground.proofs.Names.{ℕ, zero, suc, ◌+◌, ◌*◌, ◌<◌, ◌≤◌, suc-mul, add-mul, mul-le-mul_right, arith, ℕ_discrete, List, [], ◌∷◌, ◌++◌, ◌≡◌, refl, ◌∙◌, length, get_or, set, drop, length-set, get_or-set_same, get_or-set_other, drop-set-lt}
+use Rattle.ground.proofs.Names.{ℕ, zero, suc, ◌+◌, ◌*◌, ◌<◌, ◌≤◌, suc-mul, add-mul, mul-le-mul_right, arith, ℕ_discrete, List, [], ◌∷◌, ◌++◌, ◌≡◌, refl, sym, ◌∙◌, length, get_or, set, drop, length-append, length-set, get_or-set_same, get_or-set_other, drop-set-lt}
 use Rattle.digits.specs.declared.Planes.{Planes}
 use Rattle.plans.specs.Least.{total, need_at, plain}
+use Rattle.plans.specs.Plan.{steps}
+use Rattle.plans.proofs.Planner.{length_steps}
 use Rattle.planner.specs.OneDriver.{put}
+use Rattle.planner.specs.Column.{Puts, Room}
+use Rattle.planner.specs.declared.Column.{Column}
 
 pub length_put : (ws l : List ℕ) (n at : ℕ) → length (put l n at ws) ≡ length l
 unfolding put
@@ -53,3 +57,27 @@ grows f k (suc m) l = go (grows f k m) (ℕ_discrete k m)
 
 pub needs_fit : (p q : Planes) (k n : ℕ) → k < 16 → total k (need_at p q) * n + need_at p q k * n ≤ plain p q * n
 needs_fit p q k n h = rw add-mul at (mul-le-mul_right n (grows (need_at p q) k 16 h))
+
+-- words put, and then others
+pub puts_append : (s t u : Column) (ws vs : List ℕ) → Puts s t ws → Puts t u vs → Puts s u (ws ++ vs)
+puts_append s t u ws vs a b = (
+  b.0 ∙ a.0,
+  rw (a.1, a.2, a.3) at b.1 ∙ sym (put_append ws vs s.list.now s.n s.at),
+  b.2 ∙ a.2,
+  rw (length-append, add-mul) (rw (a.2, a.3) at b.3 ∙ omega arith),
+)
+
+pub puts_none : (s : Column) → Puts s s []
+unfolding put
+puts_none s = (refl, refl, refl, omega arith)
+
+-- the room after them
+pub room_after : (s t : Column) (ws : List ℕ) (count : ℕ) → Puts s t ws → Room s (length ws + count) → Room t count
+room_after s t ws count a r = rw (a.1, a.2, a.3, length_put) (r.0, omega (arith, rw add-mul at r.1))
+
+-- and that for the next digit
+pub room_for : (s t : Column) (p q : Planes) (k : ℕ) → k < 16 → Puts s t (steps p q k) → Room s (plain p q) → Room t (need_at p q k)
+room_for s t p q k h a r = room_after s t (steps p q k) (need_at p q k) a (r.0, rw (length_steps, add-mul) (omega (arith, needs_fit p q k s.n h, r.1)))
+
+pub room_less : (s : Column) (m count : ℕ) → m ≤ count → Room s count → Room s m
+room_less s m count h r = (r.0, omega (arith, r.1, mul-le-mul_right s.n h))

@@ -1,1 +1,2 @@
 pub mod OneDriver
+pub mod Column

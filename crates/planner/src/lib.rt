@@ -1,20 +1,24 @@
 // The planner by value: the words that one driver needs for its wanted contents, its part of a list of accesses, and whether it accepts its part of one.
 #![tactic(auto)]
 
-ghost use Rattle.std.specs.Prelude.{◌+◌, ◌*◌, ◌%◌, ◌<◌, ◌≤◌, max, ◌&&◌, [], ◌∷◌, ◌++◌, ◌≡◌, eqb, ltb, length, replicate};
+ghost use Rattle.std.specs.Prelude.{◌+◌, ◌*◌, ◌%◌, ◌<◌, ◌≤◌, max, ◌&&◌, [], ◌∷◌, ◌≡◌, eqb, ltb, leb, length, replicate, set, Some, None, false};
 ghost use Rattle.ground.specs.Choice.{if};
-ghost use Rattle.refusals.specs.Refusals.{first_of, wanted_refusal as wanted_of, list_refusal as list_of};
+ghost use Rattle.std.specs.Result.{result_unwrap_or};
+ghost use Rattle.refusals.specs.Numbers.{number_of};
+ghost use Rattle.refusals.specs.Refusals.{wanted_refusal as wanted_of, list_refusal as list_of};
 ghost use Rattle.plans.specs.Act.{acted as acted_by, act_of};
 ghost use Rattle.plans.specs.Words.{keeps as keeps_of, allowed_by};
 ghost use Rattle.plans.specs.Lists.{words_at, wanted_at};
-ghost use Rattle.plans.specs.Least.{wrong as wrong_by, need as need_of, plain as plain_of, least as least_of};
+ghost use Rattle.plans.specs.Least.{wrong as wrong_by, need as need_of, plain as plain_of, anew as anew_of, least as least_of};
 ghost use Rattle.plans.specs.Plan.{clear_word, digit_words, steps, plan_by};
-ghost use Rattle.planner.specs.OneDriver.{put, reach, in_room, with_plan, with_driver, from_planes, accepts_at};
+ghost use Rattle.planner.specs.OneDriver.{is_wanted, reach, with_plan, with_driver, from_planes, accepts_at};
+ghost use Rattle.planner.specs.Column.{Puts, Room};
 
 use controls::Config;
 use device::Device;
 use digits::Planes;
-use words::Plane;
+use refusals::Refusal;
+use words::{Plane, Register, Word};
 
 // An answer: its number, and how many accesses the list has.
 #[repr(C)]
@@ -32,56 +36,63 @@ pub struct PlanCheckAnswer {
     pub accepted: u8,
 }
 
-// 12, where there is no number yet: the wanted contents aren't 32 bytes for each of n drivers.
-pub fn wanted_refusal(first: u8, n: usize, wanted: usize) -> u8
-    ensures { result ≡ first_of (first ∷ wanted_of n wanted ∷ []) }
+// 12: the wanted contents aren't 32 bytes for each of n drivers.
+pub fn wanted_refusal(n: usize, wanted: usize) -> Result<(), Refusal>
+    ensures { number_of result ≡ wanted_of n wanted }
 {
-    if first != 0 {
-        return first;
-    }
-    if (wanted / 32 == n) & (wanted % 32 == 0) {
-        0
+    if wanted / 32 == n && wanted % 32 == 0 {
+        Ok(())
     } else {
-        12
+        Err(Refusal::Wanted)
     }
 }
 
-// 13, where there is no number yet: the list's room is too small for k accesses of n words.
-pub fn list_refusal(first: u8, n: usize, k: usize, room: usize) -> u8
-    ensures { result ≡ first_of (first ∷ list_of n k room ∷ []) }
+// 13: the list's room is too small for k accesses of n words.
+pub fn list_refusal(n: usize, k: usize, room: usize) -> Result<(), Refusal>
+    ensures { number_of result ≡ list_of n k room }
 {
-    if first != 0 {
-        return first;
-    }
     if n == 0 {
-        return 0;
+        return Ok(());
     }
-    if room / n < k { 13 } else { 0 }
+    if room / n < k {
+        Err(Refusal::List)
+    } else {
+        Ok(())
+    }
 }
 
 // The planner's answer: a refused one has no access.
-pub fn plan_answer(number: u8, k: usize) -> PlanAnswer
-    ensures { result ≡ record { number = number; accesses = if (eqb number 0) k 0 } }
+pub fn plan_answer(outcome: Result<usize, Refusal>) -> PlanAnswer
+    ensures { result ≡ record { number = number_of outcome; accesses = result_unwrap_or outcome 0 } }
 {
-    PlanAnswer {
-        number: number,
-        accesses: if number == 0 { k } else { 0 },
+    match outcome {
+        Ok(k) => PlanAnswer {
+            number: 0,
+            accesses: k,
+        },
+        Err(refusal) => PlanAnswer {
+            number: u8::from(refusal),
+            accesses: 0,
+        },
     }
 }
 
 // The check's answer, by whether every driver accepts its words: a list of whole accesses is accepted.
-pub fn check_answer(number: u8, n: usize, words: usize, each: bool) -> PlanCheckAnswer
-    ensures { result ≡ record { number = number; accepted = if (eqb number 0 && ltb 0 n && eqb (words % n) 0 && each) 1 0 } }
+pub fn check_answer(outcome: Result<bool, Refusal>, n: usize, words: usize) -> PlanCheckAnswer
+    ensures { result ≡ record { number = number_of outcome; accepted = if (ltb 0 n && eqb (words % n) 0 && result_unwrap_or outcome false) 1 0 } }
 {
-    let mut accepted = 0;
-    if (number == 0) & (0 < n) {
-        if (words % n == 0) & each {
-            accepted = 1;
+    match outcome {
+        Ok(each) => {
+            let whole = n != 0 && words % n == 0;
+            PlanCheckAnswer {
+                number: 0,
+                accepted: (whole && each) as u8,
+            }
         }
-    }
-    PlanCheckAnswer {
-        number: number,
-        accepted: accepted,
+        Err(refusal) => PlanCheckAnswer {
+            number: u8::from(refusal),
+            accepted: 0,
+        },
     }
 }
 
@@ -89,7 +100,7 @@ pub fn check_answer(number: u8, n: usize, words: usize, each: bool) -> PlanCheck
 fn wrong(a: u8, x: u8) -> u8
     ensures { result ≡ wrong_by (eqb a x) }
 {
-    if a == x { 0 } else { 1 }
+    (a != x) as u8
 }
 
 // The words that one digit needs, which holds a and b, and is to hold x and y.
@@ -98,289 +109,257 @@ fn need(a: u8, b: u8, x: u8, y: u8) -> u8
 {
     let first = wrong(a, x);
     let second = wrong(b, y);
-    if x != y {
-        return first + second;
+    if x == y {
+        first.max(second)
+    } else {
+        first + second
     }
-    if first < second { second } else { first }
 }
 
-// The words that all digits need without a clear, for the wanted contents of place i.
-fn plain(held: Planes, wanted: &[u8], i: usize) -> usize
-    requires { 32 * i + 32 ≤ length wanted.now }
-    ensures { result ≡ plain_of held (wanted_at wanted.now i) }
+// The words that all digits need without a clear.
+fn plain(held: Planes, wanted: Planes) -> usize
+    ensures { result ≡ plain_of held wanted }
 {
-    let p0 = held.p0;
-    let p1 = held.p1;
-    let from = 32 * i;
     let mut sum: u8 = 0;
-    let mut k = 0;
-    while k < 16 {
-        sum += need(p0[k], p1[k], wanted[from + k], wanted[from + 16 + k]);
-        k += 1;
+    for k in 0..16 {
+        sum += need(held.p0[k], held.p1[k], wanted.p0[k], wanted.p1[k]);
     }
     sum as usize
 }
 
-// The least number of words for one driver.
-fn least(held: Planes, wanted: &[u8], i: usize) -> usize
-    requires { 32 * i + 32 ≤ length wanted.now }
-    ensures { result ≡ least_of held (wanted_at wanted.now i) }
+// And with one first.
+fn anew(wanted: Planes) -> usize
+    ensures { result ≡ anew_of wanted }
 {
-    let kept = plain(held, wanted, i);
-    let anew = 1 + plain(held.cleared_if(true), wanted, i);
-    if kept <= anew { kept } else { anew }
+    1 + plain(Planes::CLEARED, wanted)
+}
+
+// The least number of words for one driver.
+fn least(held: Planes, wanted: Planes) -> usize
+    ensures { result ≡ least_of held wanted }
+{
+    let kept = plain(held, wanted);
+    kept.min(anew(wanted))
+}
+
+// The wanted contents of the driver at place i: P0, then P1.
+fn wanted_at(wanted: &[u8], i: usize) -> Option<Planes>
+    ensures { result ≡ if (is_wanted wanted.now i) (Some (wanted_at wanted.now i)) None }
+{
+    if i < wanted.len() / 32 {
+        let from = 32 * i;
+        let mut own = Planes::CLEARED;
+        own.p0.copy_from_slice(&wanted[from..from + 16]);
+        own.p1.copy_from_slice(&wanted[from + 16..from + 32]);
+        return Some(own);
+    }
+    None
 }
 
 // The most words that a driver needs, of those before and the one at place i.
-pub fn more(most: usize, i: usize, d: Device, wanted: &[u8]) -> usize
-    ensures { result ≡ max most (reach d wanted.now i) }
+pub fn more(most: usize, i: usize, d: &Device, wanted: &[u8]) -> usize
+    ensures { result ≡ max most (reach d.now wanted.now i) }
 {
-    if i < wanted.len() / 32 {
-        let k = least(d.registers.planes, wanted, i);
-        if most < k {
-            return k;
-        }
+    match wanted_at(wanted, i) {
+        Some(own) => most.max(least(d.registers.planes, own)),
+        None => most,
     }
-    most
 }
 
-// A digit's write: 0x20, 0x40 or 0x60 as a word, the digit, its byte.
-fn word(row: u16, k: usize, v: u8) -> u16
-    requires { (row < 32768) × (k < 16) }
-    ensures { result ≡ row + k * 256 + v }
+// A digit's write: in one plane or in both, the digit, its byte.
+fn digit_word(planes: u16, k: usize, v: u8) -> u16
+    requires { (planes < 32768) × (k < 16) }
+    ensures { result ≡ planes + k * 256 + v }
 {
-    row + (k as u16) * 256 + v as u16
+    planes + (k as u16) * 256 + v as u16
 }
 
 // A clear that keeps the configuration.
 fn clear_word(c: Config) -> u16
     ensures { result ≡ clear_word c }
 {
-    1056 + c.i as u16 * 64 + c.e as u16 * 8 + c.b as u16 * 4 + c.s as u16
+    0x0420 + c.i as u16 * 64 + c.e as u16 * 8 + c.b as u16 * 4 + c.s as u16
 }
 
-// One word, put into the list where it is to be. The place after it.
-fn write_if(list: &mut [u16], n: usize, at: usize, is: bool, w: u16) -> usize
-    requires { (n ≤ 16) × (if is (at + n) at < length list.old + n) }
-    ensures { (list.new ≡ put list.old n at (if is (w ∷ []) [])) × (result ≡ if is (at + n) at) }
-{
-    if is {
-        list[at] = w;
-        return at + n;
-    }
-    at
-}
-
-// The words that digit k needs, put into the list: one for both planes where P1 is wrong too and wanted like P0. The place after them.
-fn write_digit(list: &mut [u16], n: usize, at: usize, k: usize, a: u8, b: u8, x: u8, y: u8) -> usize
-    requires { (k < 16) × (n ≤ 16) × (at + need_of a b x y * n < length list.old + n) }
-    ensures { (list.new ≡ put list.old n at (digit_words k a b x y)) × (result ≡ at + need_of a b x y * n) }
-{
-    let both = (x == y) & (b != y);
-    let first = word(8192 + 16384 * (both as u16), k, x);
-    let second = word(16384, k, y);
-    let next = write_if(list, n, at, a != x, first);
-    write_if(list, n, next, (b != y) & !(both & (a != x)), second)
-}
-
-// The words of all digits, put into the list from a place on. The place after them.
-fn write_digits(
-    list: &mut [u16],
+// Where the words of one driver go in a list of accesses of n words: the next to `at`, each n after the one before.
+#[derive(Drop)]
+struct Column<'a> {
+    list: &'a mut [u16],
     n: usize,
-    start: usize,
-    held: Planes,
-    wanted: &[u8],
-    i: usize,
-) -> usize
-    requires { (n ≤ 16) × (32 * i + 32 ≤ length wanted.now) × (start + plain_of held (wanted_at wanted.now i) * n < length list.old + n) }
-    ensures { (list.new ≡ put list.old n start (steps held (wanted_at wanted.now i) 16)) × (result ≡ start + plain_of held (wanted_at wanted.now i) * n) }
-{
-    let p0 = held.p0;
-    let p1 = held.p1;
-    let from = 32 * i;
-    let mut at = start;
-    let mut k = 0;
-    while k < 16 {
-        at = write_digit(
-            list,
-            n,
-            at,
-            k,
-            p0[k],
-            p1[k],
-            wanted[from + k],
-            wanted[from + 16 + k],
-        );
-        k += 1;
+    at: usize,
+}
+
+impl Column<'_> {
+    const IN_P0: u16 = 0x2000;
+
+    const IN_P1: u16 = 0x4000;
+
+    const IN_BOTH: u16 = 0x6000;
+
+    fn write(&mut self, word: u16)
+        requires { Room self.old 1 }
+        ensures { Puts self.old self.new (word ∷ []) }
+    {
+        self.list[self.at] = word;
+        self.at += self.n;
     }
-    at
-}
 
-// No-ops, put into the list from a place on, as many as are asked for.
-fn write_waits(list: &mut [u16], n: usize, start: usize, count: usize)
-    requires { (n ≤ 16) × (count ≤ 32) × (start + count * n < length list.old + n) }
-    ensures { list.new ≡ put list.old n start (replicate count 0) }
-{
-    let mut at = start;
-    let mut k = 0;
-    while k < count {
-        list[at] = 0;
-        at += n;
-        k += 1;
+    // The words that digit k needs: one for both planes where both are wrong and wanted alike.
+    fn write_digit(&mut self, k: usize, a: u8, b: u8, x: u8, y: u8)
+        requires { (k < 16) × Room self.old (need_of a b x y) }
+        ensures { Puts self.old self.new (digit_words k a b x y) }
+    {
+        match (a == x, b == y) {
+            (true, true) => {}
+            (true, false) => self.write(digit_word(Column::IN_P1, k, y)),
+            (false, true) => self.write(digit_word(Column::IN_P0, k, x)),
+            (false, false) => {
+                if x == y {
+                    self.write(digit_word(Column::IN_BOTH, k, x));
+                } else {
+                    self.write(digit_word(Column::IN_P0, k, x));
+                    self.write(digit_word(Column::IN_P1, k, y));
+                }
+            }
+        }
+    }
+
+    // Those of all digits.
+    fn write_digits(&mut self, held: Planes, wanted: Planes)
+        requires { Room self.old (plain_of held wanted) }
+        ensures { Puts self.old self.new (steps held wanted 16) }
+    {
+        for k in 0..16 {
+            self.write_digit(k, held.p0[k], held.p1[k], wanted.p0[k], wanted.p1[k]);
+        }
+    }
+
+    // No-ops, as many as are asked for.
+    fn write_waits(&mut self, count: usize)
+        requires { (count ≤ 32) × Room self.old count }
+        ensures { Puts self.old self.new (replicate count 0) }
+    {
+        for _ in 0..count {
+            self.write(0);
+        }
     }
 }
 
-// The words of all digits, and no-ops after them, put into the list from a place on.
-fn write_words(
-    list: &mut [u16],
-    n: usize,
-    start: usize,
-    held: Planes,
-    wanted: &[u8],
-    i: usize,
-    waits: usize,
-)
-    requires { (n ≤ 16) × (waits ≤ 32) × (32 * i + 32 ≤ length wanted.now) × (start + (plain_of held (wanted_at wanted.now i) + waits) * n < length list.old + n) }
-    ensures { list.new ≡ put list.old n start (steps held (wanted_at wanted.now i) 16 ++ replicate waits 0) }
+// The words from planes to the wanted contents, and no-ops after them, in a driver's part of k accesses; none where they are more than k.
+fn write_plan(column: &mut Column, k: usize, held: Planes, config: Config, wanted: Planes)
+    requires { (k ≤ 32) × Room column.old k }
+    ensures same_reference { column.new.list.ghost_name ≡ column.old.list.ghost_name }
+    ensures planned { column.new.list.now ≡ with_plan column.old.list.now column.old.n k column.old.at (plan_by held config wanted) }
 {
-    let at = write_digits(list, n, start, held, wanted, i);
-    write_waits(list, n, at, waits);
-}
-
-// Whether there is a place i among n drivers, with wanted contents, and room for k accesses.
-fn in_room(room: usize, wanted: usize, n: usize, k: usize, i: usize) -> bool
-    ensures { result ≡ in_room room wanted n k i }
-{
-    if (i < n) & (n < 17) & (k < 33) & (i < wanted / 32) {
-        return k * n <= room;
-    }
-    false
-}
-
-// The words from planes to the wanted contents, and no-ops after them: the part of place i of the list's first k accesses.
-fn write_plan(
-    list: &mut [u16],
-    n: usize,
-    k: usize,
-    held: Planes,
-    config: Config,
-    wanted: &[u8],
-    i: usize,
-)
-    requires { (i < n) × (n ≤ 16) × (k ≤ 32) × (32 * i + 32 ≤ length wanted.now) × (k * n ≤ length list.old) }
-    ensures { list.new ≡ with_plan list.old n k i (plan_by held config (wanted_at wanted.now i)) }
-{
-    let kept = plain(held, wanted, i);
-    let cleared = 1 + plain(held.cleared_if(true), wanted, i);
+    let kept = plain(held, wanted);
+    let cleared = anew(wanted);
     if kept <= cleared {
         if kept <= k {
-            write_words(list, n, i, held, wanted, i, k - kept);
+            column.write_digits(held, wanted);
+            column.write_waits(k - kept);
         }
     } else if cleared <= k {
-        list[i] = clear_word(config);
-        write_words(
-            list,
-            n,
-            i + n,
-            held.cleared_if(true),
-            wanted,
-            i,
-            k - cleared,
-        );
+        column.write(clear_word(config));
+        column.write_digits(Planes::CLEARED, wanted);
+        column.write_waits(k - cleared);
     }
+}
+
+// Whether there is a place i among n drivers, and room for k accesses.
+fn in_room(room: usize, n: usize, k: usize, i: usize) -> bool
+    ensures { result ≡ (ltb i n && ltb n 17 && ltb k 33 && leb (k * n) room) }
+{
+    i < n && n < 17 && k < 33 && k * n <= room
 }
 
 // The words of the driver at place i, and no-ops after them: its part of the list's first k accesses.
-pub fn write_driver(list: &mut [u16], wanted: &[u8], n: usize, k: usize, i: usize, d: Device)
-    ensures { list.new ≡ with_driver list.old wanted.now n k i d }
+pub fn write_driver(list: &mut [u16], wanted: &[u8], n: usize, k: usize, i: usize, d: &Device)
+    ensures { list.new ≡ with_driver list.old wanted.now n k i d.now }
 {
-    if in_room(list.len(), wanted.len(), n, k, i) {
-        write_plan(
-            list,
-            n,
-            k,
-            d.registers.planes,
-            d.registers.config,
-            wanted,
-            i,
-        );
+    if let Some(own) = wanted_at(wanted, i) {
+        if in_room(list.len(), n, k, i) {
+            let mut column = Column { list, n, at: i };
+            write_plan(&mut column, k, d.registers.planes, d.registers.config, own);
+        }
     }
 }
 
 // Configuration data that keeps I, E, B and S, with P, T and X 0.
-fn keeps(c: Config, v: u16) -> bool
+fn keeps(c: Config, v: u8) -> bool
     ensures { result ≡ keeps_of c v }
 {
-    let stored = (v / 64 % 2 == c.i as u16)
-        & (v / 8 % 2 == c.e as u16)
-        & (v / 4 % 2 == c.b as u16)
-        & (v % 2 == c.s as u16);
-    let zero = !(v / 16 % 2 == 1) & !(v / 128 % 2 == 1) & !(v / 2 % 2 == 1);
-    stored & zero
+    let new = Config::of(v);
+    let same = new.i == c.i && new.e == c.e && new.b == c.b && new.s == c.s;
+    let zero = v / 16 % 2 != 1 && v / 128 % 2 != 1 && v / 2 % 2 != 1;
+    same && zero
 }
 
-// A word that a redraw may give.
-fn allowed(c: Config, w: u16) -> bool
-    ensures { result ≡ allowed_by c w }
+// A digit's byte in a plane.
+fn put(plane: &mut [u8], k: u8, v: u8)
+    ensures { plane.new ≡ set plane.old k v }
 {
-    let row = w / 4096;
-    let digit = (row == 2) | (row == 4) | (row == 6);
-    (w == 0) | digit | (w / 256 == 4) & keeps(c, w % 256)
-}
-
-// The planes after an allowed word.
-fn acted(mut p: Planes, w: u16) -> Planes
-    ensures { result ≡ acted_by p (act_of w) }
-{
-    let row = w / 4096;
-    let k = (w / 256 % 16) as usize;
-    let v = (w % 256) as u8;
-    if row == 2 {
-        p.p0[k] = v;
-    } else if row == 4 {
-        p.p1[k] = v;
-    } else if row == 6 {
-        p.p0[k] = v;
-        p.p1[k] = v;
-    } else if (w / 256 == 4) & (v / 32 % 2 == 1) {
-        p = Planes::CLEARED;
+    let k = k as usize;
+    if k < plane.len() {
+        plane[k] = v;
     }
-    p
 }
 
-// Whether a driver with this configuration and these planes, at place i of n, accepts its words of a list.
-fn own_accepted(
-    i: usize,
-    config: Config,
-    mut p: Planes,
-    n: usize,
-    wanted: &[u8],
-    list: &[u16],
-) -> bool
-    requires { (i < n) × (n ≤ 16) × (32 * i + 32 ≤ length wanted.now) }
-    ensures { result ≡ from_planes config (wanted_at wanted.now i) p (words_at n list.now i) }
+// Whether a redraw may give a word; one that it may is obeyed.
+fn obeys(c: Config, held: &mut Planes, word: u16) -> bool
+    ensures { (if result (Some held.new) None) ≡ if (allowed_by c word) (Some (acted_by held.old (act_of word))) None }
 {
-    let k = list.len() / n;
-    let mut at = i;
-    let mut a = 0;
-    while a < k {
-        let w = list[at];
-        if !allowed(config, w) {
+    let Word::Write(register, v) = words::decode(word) else {
+        return false;
+    };
+    match register {
+        Register::NoOp => v == 0,
+        Register::Digit(plane, k) => {
+            match plane {
+                Plane::P0 => put(&mut held.p0, k, v),
+                Plane::P1 => put(&mut held.p1, k, v),
+            }
+            true
+        }
+        Register::BothPlanes(k) => {
+            put(&mut held.p0, k, v);
+            put(&mut held.p1, k, v);
+            true
+        }
+        Register::Configuration => {
+            if !keeps(c, v) {
+                return false;
+            }
+            if v / 32 % 2 == 1 {
+                *held = Planes::CLEARED;
+            }
+            true
+        }
+        _ => false,
+    }
+}
+
+// Whether a driver accepts its words of a list, at place i of n.
+fn own_accepted(d: &Device, wanted: Planes, n: usize, i: usize, list: &[u16]) -> bool
+    requires { (i < n) × (n ≤ 16) }
+    ensures { result ≡ from_planes d.now.registers.config wanted d.now.registers.planes (words_at n list.now i) }
+{
+    let mut held = d.registers.planes;
+    for access in list.chunks_exact(n) {
+        if !obeys(d.registers.config, &mut held, access[i]) {
             return false;
         }
-        p = acted(p, w);
-        at += n;
-        a += 1;
     }
-    plain(p, wanted, i) == 0
+    plain(held, wanted) == 0
 }
 
 // Whether all drivers before and the one at place i accept their words of a list.
-pub fn accepts(each: bool, i: usize, d: Device, n: usize, wanted: &[u8], list: &[u16]) -> bool
-    ensures { result ≡ (each && accepts_at d n wanted.now list.now i) }
+pub fn accepts(each: bool, i: usize, d: &Device, n: usize, wanted: &[u8], list: &[u16]) -> bool
+    ensures { result ≡ (each && accepts_at d.now n wanted.now list.now i) }
 {
-    if each & ((i < n) & (n < 17) & (i < wanted.len() / 32)) {
-        return own_accepted(i, d.registers.config, d.registers.planes, n, wanted, list);
+    if each && i < n && n < 17 {
+        if let Some(own) = wanted_at(wanted, i) {
+            return own_accepted(d, own, n, i, list);
+        }
     }
     false
 }

@@ -1,8 +1,10 @@
 -- The outcome of the planner's call and of its check, by the number as it is found and by the passes over the chain.
 --     own_is     the number before 13.        own-zero       what a number of 0 tells of the chain and of the wanted contents
---     plan_outcome, check-outcome      the outcomes
+--     plan_outcome, check_outcome      the outcomes, and by what refuses
 -- Assumes nothing.
-use Rattle.ground.proofs.Names.{ℕ, ◌*◌, ◌%◌, ◌<◌, ◌≤◌, arith, Bool, true, false, not, ◌&&◌, List, [], ◌∷◌, ◌++◌, ◌≡◌, refl, sym, ap, ◌∙◌, eqb, ltb, length, drop, eqb-true, ltb-true, ltb-false, lt-ltb, if, passed, and_left, and_right}
+use Rattle.ground.proofs.Names.{ℕ, ◌*◌, ◌%◌, ◌<◌, ◌≤◌, arith, Bool, true, false, not, ◌&&◌, List, [], ◌∷◌, ◌++◌, ◌≡◌, refl, sym, ap, ◌∙◌, eqb, ltb, length, drop, eqb-true, ne_eqb, ltb-true, ltb-false, lt-ltb, if, passed, and_left, and_right}
+use Rattle.std.specs.Prelude.{Result, Ok, Err, IsErrAnd}
+use Rattle.refusals.specs.declared.Refusal.{Refusal}
 use Rattle.refusals.specs.Refusals.{chain_refusal, sound_refusal, family_refusal, lack_refusal, wanted_refusal, list_refusal, first_of}
 use Rattle.refusals.proofs.RefusalLaws.{first_zero, first_last, found_last}
 use Rattle.device.specs.Families.{families}
@@ -117,6 +119,24 @@ module _ (ds : List Device) (wanted : List ℕ) where
     unfolding reply
     plan_outcome = rw (plan_number, after_same (ask_chain (plan wanted list)) ds refl, plan_list (eqb number_of_plan 0) refl)
 
+    -- by what refuses: the whole row, the wanted contents, the room of the list
+    pub by_row : (k : ℕ) → early ≡ k → (k ≡ 0 → ⊥) → number_of_plan ≡ k
+    by_row k e f = rw (e, ne_eqb k 0 f, ne_eqb k 0 f)
+
+    pub by_wanted : (k : ℕ) → early ≡ 0 → wanted_refusal n (length wanted) ≡ k → (k ≡ 0 → ⊥) → number_of_plan ≡ k
+    by_wanted k e w f = rw (e, w, ne_eqb k 0 f, ne_eqb k 0 f)
+
+    pub by_list : early ≡ 0 → wanted_refusal n (length wanted) ≡ 0 → number_of_plan ≡ list_refusal n (reach_to ds wanted n) (length list)
+    by_list e w = rw (e, w) (first_last (list_refusal n (reach_to ds wanted n) (length list)))
+
+    pub plan_refused : (k : ℕ) → number_of_plan ≡ k → (k ≡ 0 → ⊥) → outcome (ask_chain (plan wanted list)) ds ≡ record { number = k; records = ds; back = 0 ∷ list }
+    unfolding list_to
+    plan_refused k e f = plan_outcome ∙ rw (e, ne_eqb k 0 f)
+
+    pub plan_served : number_of_plan ≡ 0
+        → outcome (ask_chain (plan wanted list)) ds ≡ record { number = 0; records = ds; back = reach_to ds wanted n ∷ list_to ds wanted list (reach_to ds wanted n) n }
+    plan_served e = plan_outcome ∙ rw (e, (first_zero own (list_refusal n most (length list) ∷ []) e).0)
+
     abbrev each : Bool
     each = accept_to ds n wanted list (to_pass own n)
 
@@ -135,3 +155,27 @@ module _ (ds : List Device) (wanted : List ℕ) where
         ≡ record { number = own; records = ds; back = if (eqb own 0 && ltb 0 n && eqb (length list % n) 0 && each) 1 0 ∷ [] }
     unfolding reply
     check_outcome = rw (check_number, after_same (ask_chain (plan_check wanted list)) ds refl, check_answer (eqb own 0) refl)
+
+    pub check_by_row : (k : ℕ) → early ≡ k → (k ≡ 0 → ⊥) → own ≡ k
+    check_by_row k e f = rw (e, ne_eqb k 0 f)
+
+    pub check_by_wanted : early ≡ 0 → own ≡ wanted_refusal n (length wanted)
+    check_by_wanted e = rw e (first_last (wanted_refusal n (length wanted)))
+
+    pub check_refused : (k : ℕ) → own ≡ k → (k ≡ 0 → ⊥)
+        → outcome (ask_chain (plan_check wanted list)) ds ≡ record { number = k; records = ds; back = if (ltb 0 n && eqb (length list % n) 0 && false) 1 0 ∷ [] }
+    check_refused k e f = check_outcome ∙ rw (e, ne_eqb k 0 f, none (ltb 0 n && eqb (length list % n) 0))
+      where
+        none : (b : Bool) → (b && false) ≡ false
+        none true = refl
+        none false = refl
+
+    pub check_served : own ≡ 0
+        → outcome (ask_chain (plan_check wanted list)) ds
+        ≡ record { number = 0; records = ds; back = if (ltb 0 n && eqb (length list % n) 0 && accept_to ds n wanted list n) 1 0 ∷ [] }
+    check_served e = check_outcome ∙ rw e
+
+-- what `?` gives out is the refusal that it met
+pub err_is : {A : Type 0} (r : Result A Refusal) (e : Refusal) → IsErrAnd r (λ x. x ≡ e) → r ≡ Err e
+err_is (Ok x) e h = absurd h
+err_is (Err x) e h = ap Err h

@@ -1,19 +1,13 @@
 -- A turn of the loops over a lent chain: the accesses that the drivers so far need, whether they accept their words, and the list with their words.
---     passed_below                       a driver that is passed is one of the chain
 --     reach_turn, accept_turn, list_turn
 -- Assumes nothing.
-use Rattle.ground.proofs.Names.{ℕ, ◌+◌, ◌<◌, Bool, ◌&&◌, List, ◌≡◌, add-one, subst, length, get_or, max}
+use Rattle.ground.proofs.Names.{ℕ, ◌+◌, ◌<◌, Bool, ◌&&◌, List, ◌≡◌, add-one, length, get_or, max}
 use Rattle.device.specs.PowerUp.{power_up}
 use Rattle.device.specs.declared.Device.{Device}
-use Rattle.pass.specs.Found.{to_pass}
-use Rattle.pass.proofs.FoundLaws.{pass_below}
 use Rattle.plans.specs.Plan.{largest}
 use Rattle.plans.specs.Check.{below}
 use Rattle.planner.specs.OneDriver.{reach, reach_to, accepts_at, accept_to, with_driver, list_to}
 use Rattle.lent.proofs.Passed.{default}
-
-pub passed_below : (number : ℕ) (xs : List Device) (i : ℕ) {m : ℕ} → m ≡ to_pass number (length xs) → i < m → i < length xs
-passed_below number xs i e h = pass_below number (length xs) i (subst (λ (k : ℕ). i < k) e h)
 
 module _ (xs : List Device) (wanted : List ℕ) (i : ℕ) (d : Device) (h : i < length xs) where
   abbrev same : get_or xs i d ≡ get_or xs i power_up

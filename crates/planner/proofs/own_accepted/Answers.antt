@@ -1,41 +1,39 @@
--- `planner::own_accepted` meets its contract. The invariant: after a words, the rest decides by the planes so far. Assumes nothing.
-use Rattle.ground.proofs.Names.{◌-◌, add-one, suc-mul, div-le_self, arith, refl, sym, ◌∙◌}
-use Rattle.planner.proofs.CheckLaws.{same_plain, word_taken, word_refused, words_done, place_in}
+-- `planner::own_accepted` meets its contract. Assumes nothing.
+use Rattle.ground.proofs.Names.{sym, ap, ◌∙◌, refl}
+use Rattle.std.specs.Slice.Iter.{chunks_exact_rest}
+use Rattle.digits.specs.declared.Planes.{Planes}
+use Rattle.plans.specs.Lists.{words_at}
+use Rattle.planner.specs.OneDriver.{from_planes}
+use Rattle.planner.proofs.CheckLaws.{same_plain, some_taken, none_taken, word_taken, word_refused, words_done}
 use Rattle.planner.proofs.own_accepted.Goals as goal
 
-pub loop-a-init : goal.loop-a-init
-loop-a-init c = (omega arith, div-le_self _ _, place_in _ _ _ c.requires.0, omega arith, refl)
+pub loop-access-init : goal.loop-access-init
+loop-access-init c =
+    let e = c.chunks_exact-access-items.ensures in
+    rw (c.into_iter-access-iterator.ensures.into_iter_gives, e.size, e.rest) (refl, refl)
 
-pub returns-then-not-allowed : goal.returns-then-not-allowed
-returns-then-not-allowed c =
-    let s = c.args in
-    let l = c.loop-a in
-    let t = sym c.allowed.ensures ∙ c.if-not-allowed.true in
-    sym (l.invariant.4 ∙ word_refused _ _ l.p s.list.now s.n s.i l.a l.at (omega arith) l.invariant.3 t)
+pub returns-then-not-obeys : goal.returns-then-not-obeys
+returns-then-not-obeys c =
+    let a = c.args in
+    let l = c.loop-access in
+    let s = c.in-Some.ensures.steps in
+    let t = none_taken _ _ (sym (rw c.if-not-obeys.true at c.obeys.ensures)) in
+    sym (l.invariant.1 ∙ rw s.1.0 (word_refused a.n a.i c.requires.0 a.d.now.registers.config a.wanted l.held _ _ (s.1.1 ∙ l.invariant.0) t))
 
-pub loop-a-preserved : goal.loop-a-preserved
-loop-a-preserved c =
-    let s = c.args in
-    let l = c.loop-a in
-    let t = sym c.allowed.ensures ∙ c.if-not-allowed.false in (
-      omega arith,
-      l.invariant.1,
-      l.invariant.2,
-      rw add-one (omega (arith, suc-mul l.a s.n)),
-      l.invariant.4 ∙ rw (add-one, c.acted-p.ensures) (word_taken _ _ l.p s.list.now s.n s.i l.a l.at (omega arith) l.invariant.3 t),
+pub loop-access-preserved : goal.loop-access-preserved
+loop-access-preserved c =
+    let a = c.args in
+    let l = c.loop-access in
+    let s = c.in-Some.ensures.steps in
+    let t = some_taken _ _ _ (sym (rw c.if-not-obeys.false at c.obeys.ensures)) in (
+      s.0 ∙ l.invariant.0,
+      l.invariant.1 ∙ rw s.1.0 (word_taken a.n a.i c.requires.0 a.d.now.registers.config a.wanted l.held _ _ (s.1.1 ∙ l.invariant.0) t.0
+          ∙ ap (λ (p : Planes). from_planes a.d.now.registers.config a.wanted p (words_at a.n (chunks_exact_rest c.next.new.self) a.i)) t.1),
     )
 
 pub returns : goal.returns
 returns c =
-    let s = c.args in
-    let l = c.loop-a in
-    rw c.plain.ensures (sym (l.invariant.4 ∙ words_done _ _ l.p s.list.now s.n s.i l.a (omega arith) ∙ same_plain l.p _))
-
-pub offset_bounds-list-at : goal.offset_bounds-list-at
-offset_bounds-list-at c = let l = c.loop-a in omega (arith, l.invariant.2 l.a (omega arith))
-
-pub bounds-list-at : goal.bounds-list-at
-bounds-list-at c = let l = c.loop-a in omega (arith, l.invariant.2 l.a (omega arith))
-
-pub overflow_add-at : goal.overflow_add-at
-overflow_add-at c = let l = c.loop-a in omega (arith, l.invariant.2 l.a (omega arith))
+    let a = c.args in
+    let l = c.loop-access in
+    rw c.plain.ensures
+    (sym (l.invariant.1 ∙ words_done a.n a.i c.requires.0 a.d.now.registers.config a.wanted l.held _ (rw l.invariant.0 at c.in-None.ensures.steps.1.0) ∙ same_plain l.held a.wanted))

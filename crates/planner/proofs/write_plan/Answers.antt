@@ -1,58 +1,62 @@
 -- `planner::write_plan` meets its contract, by the laws of a list with a plan's words. Assumes nothing.
-use Rattle.ground.proofs.Names.{suc, ◌+◌, ◌-◌, ◌≤◌, suc-mul, mul-le-mul_right, arith, ◌≡◌, length-set}
+use Rattle.ground.proofs.Names.{[], ◌∷◌, ◌+◌, ◌-◌, arith, length}
 use Rattle.digits.specs.Digits.{cleared}
 use Rattle.plans.specs.Least.{plain}
-use Rattle.plans.specs.Lists.{wanted_at}
-use Rattle.plans.proofs.Potential.{needs_le}
+use Rattle.plans.specs.Plan.{clear_word, steps}
+use Rattle.plans.proofs.Planner.{length_steps}
+use Rattle.planner.proofs.Puts.{puts_append, room_after, room_less}
 use Rattle.planner.proofs.Room.{kept_many, anew_many, kept_fits, anew_fits}
 use Rattle.planner.proofs.write_plan.Goals as goal
 
-pub overflow_add-cleared : goal.overflow_add-cleared
-overflow_add-cleared c =
-    let anew : c.plain-cleared.result ≡ plain cleared (wanted_at c.args.wanted.now c.args.i) = rw c.cleared_if.ensures at c.plain-cleared.ensures in
-    omega (arith, anew, needs_le cleared (wanted_at c.args.wanted.now c.args.i) 16)
+pub write_waits-requires : goal.write_waits-requires
+write_waits-requires c =
+    let a = c.args in (
+      omega arith,
+      room_after a.column.now c.write_digits.new.self (steps a.held a.wanted 16) (a.k - c.plain-kept.result) c.write_digits.ensures
+          (room_less a.column.now (length (steps a.held a.wanted 16) + (a.k - c.plain-kept.result)) a.k (omega (arith, length_steps a.held a.wanted 16, c.plain-kept.ensures)) c.requires.1),
+    )
 
-pub write_words-requires : goal.write_words-requires
-write_words-requires c =
-    let e : plain c.args.held (wanted_at c.args.wanted.now c.args.i) + (c.args.k - c.plain-kept.result) ≡ c.args.k = omega (arith, c.plain-kept.ensures) in
-    (c.requires.1, omega arith, c.requires.3, rw e (omega (arith, c.requires)))
-
-pub bounds-list-i : goal.bounds-list-i
-bounds-list-i c =
+pub write_digits-requires-then-cleared-k : goal.write_digits-requires-then-cleared-k
+write_digits-requires-then-cleared-k c =
     let a = c.args in
-    let h : 1 ≤ a.k = omega arith in
-    omega (arith, c.requires, mul-le-mul_right a.n h)
+    room_after a.column.now c.write.new.self (c.clear_word.result ∷ []) (plain cleared a.wanted) c.write.ensures
+    (room_less a.column.now (1 + plain cleared a.wanted) a.k (omega (arith, c.anew-cleared.ensures)) c.requires.1)
 
-pub write_words-requires-then-cleared-k : goal.write_words-requires-then-cleared-k
-write_words-requires-then-cleared-k c =
-    let anew : c.plain-cleared.result ≡ plain cleared (wanted_at c.args.wanted.now c.args.i) = rw c.cleared_if.ensures at c.plain-cleared.ensures in
-    let e : suc (plain cleared (wanted_at c.args.wanted.now c.args.i) + (c.args.k - (1 + c.plain-cleared.result))) ≡ c.args.k = omega (arith, anew) in
-    let g = rw e at (suc-mul (plain cleared (wanted_at c.args.wanted.now c.args.i) + (c.args.k - (1 + c.plain-cleared.result))) c.args.n) in
-    (c.requires.1, omega arith, c.requires.3, rw (c.cleared_if-then-cleared-k.ensures, length-set) (omega (arith, c.requires)))
-
-pub returns-then-kept-k : goal.returns-then-kept-k
-returns-then-kept-k c =
-    let anew : c.plain-cleared.result ≡ plain cleared (wanted_at c.args.wanted.now c.args.i) = rw c.cleared_if.ensures at c.plain-cleared.ensures in
+pub write_waits-requires-then-cleared-k : goal.write_waits-requires-then-cleared-k
+write_waits-requires-then-cleared-k c =
     let a = c.args in
-    kept_fits a.list.now a.n a.k a.i a.held a.config (wanted_at c.args.wanted.now c.args.i) _ _ c.plain-kept.ensures anew
-    (omega arith) c.if-kept-k.true _ c.write_words.ensures
+    let w = c.write_digits-then-cleared-k in (
+      omega arith,
+      room_after a.column.now w.new.self (c.clear_word.result ∷ steps cleared a.wanted 16) (a.k - c.anew-cleared.result)
+          (puts_append a.column.now c.write.new.self w.new.self (c.clear_word.result ∷ []) (steps cleared a.wanted 16) c.write.ensures w.ensures)
+          (room_less a.column.now (length (c.clear_word.result ∷ steps cleared a.wanted 16) + (a.k - c.anew-cleared.result)) a.k
+          (omega (arith, length_steps cleared a.wanted 16, c.anew-cleared.ensures)) c.requires.1),
+    )
 
-pub returns-else-kept-k : goal.returns-else-kept-k
-returns-else-kept-k c =
-    let anew : c.plain-cleared.result ≡ plain cleared (wanted_at c.args.wanted.now c.args.i) = rw c.cleared_if.ensures at c.plain-cleared.ensures in
+pub returns-then-kept-k-clause-planned : goal.returns-then-kept-k-clause-planned
+returns-then-kept-k-clause-planned c =
     let a = c.args in
-    kept_many a.list.now a.n a.k a.i a.held a.config (wanted_at c.args.wanted.now c.args.i) _ _ c.plain-kept.ensures anew (omega arith) c.if-kept-k.false
+    let l = a.column.now in
+    kept_fits l.list.now l.n a.k l.at a.held a.config a.wanted _ _ c.plain-kept.ensures c.anew-cleared.ensures (omega arith) c.if-kept-k.true _
+    (puts_append l c.write_digits.new.self c.write_waits.new.self _ _ c.write_digits.ensures c.write_waits.ensures).1
 
-pub returns-then-cleared-k : goal.returns-then-cleared-k
-returns-then-cleared-k c =
-    let anew : c.plain-cleared.result ≡ plain cleared (wanted_at c.args.wanted.now c.args.i) = rw c.cleared_if.ensures at c.plain-cleared.ensures in
+pub returns-else-kept-k-clause-planned : goal.returns-else-kept-k-clause-planned
+returns-else-kept-k-clause-planned c =
     let a = c.args in
-    anew_fits a.list.now a.n a.k a.i a.held a.config (wanted_at c.args.wanted.now c.args.i) _ _ c.plain-kept.ensures anew
-    (omega arith) c.if-cleared-k.true _
-    (rw (c.cleared_if-then-cleared-k.ensures, c.clear_word.ensures) at c.write_words-then-cleared-k.ensures)
+    let l = a.column.now in
+    kept_many l.list.now l.n a.k l.at a.held a.config a.wanted _ _ c.plain-kept.ensures c.anew-cleared.ensures (omega arith) c.if-kept-k.false
 
-pub returns-else-cleared-k : goal.returns-else-cleared-k
-returns-else-cleared-k c =
-    let anew : c.plain-cleared.result ≡ plain cleared (wanted_at c.args.wanted.now c.args.i) = rw c.cleared_if.ensures at c.plain-cleared.ensures in
+pub returns-then-cleared-k-clause-planned : goal.returns-then-cleared-k-clause-planned
+returns-then-cleared-k-clause-planned c =
     let a = c.args in
-    anew_many a.list.now a.n a.k a.i a.held a.config (wanted_at c.args.wanted.now c.args.i) _ _ c.plain-kept.ensures anew (omega arith) c.if-cleared-k.false
+    let l = a.column.now in
+    let w = c.write_digits-then-cleared-k in
+    let f = puts_append l c.write.new.self w.new.self (clear_word a.config ∷ []) (steps cleared a.wanted 16) (rw c.clear_word.ensures at c.write.ensures) w.ensures in
+    anew_fits l.list.now l.n a.k l.at a.held a.config a.wanted _ _ c.plain-kept.ensures c.anew-cleared.ensures (omega arith) c.if-cleared-k.true _
+    (puts_append l w.new.self c.write_waits-then-cleared-k.new.self _ _ f c.write_waits-then-cleared-k.ensures).1
+
+pub returns-else-cleared-k-clause-planned : goal.returns-else-cleared-k-clause-planned
+returns-else-cleared-k-clause-planned c =
+    let a = c.args in
+    let l = a.column.now in
+    anew_many l.list.now l.n a.k l.at a.held a.config a.wanted _ _ c.plain-kept.ensures c.anew-cleared.ensures (omega arith) c.if-cleared-k.false

@@ -1,23 +1,12 @@
 -- `redraw::write_list` meets its contract. Assumes nothing.
-use Rattle.ground.proofs.Names.{◌≡◌, arith, refl, ap, ◌∙◌, length}
-use Rattle.pass.specs.Found.{to_pass}
+use Rattle.ground.proofs.Names.{◌∙◌, refl}
 use Rattle.planner.specs.OneDriver.{list_to}
-use Rattle.redraw.proofs.Turns.{passed_below, list_turn}
+use Rattle.redraw.proofs.Turns.{list_turn}
 use Rattle.redraw.proofs.write_list.Goals as goal
 
 pub loop-i-init : goal.loop-i-init
 unfolding list_to
-loop-i-init c = (omega arith, refl)
-
-pub bounds-chain-i : goal.bounds-chain-i
-bounds-chain-i c = passed_below c.args.number c.args.chain.now c.loop-i.i c.to_pass-m.ensures c.loop-i-test.true
+loop-i-init c = refl
 
 pub loop-i-preserved : goal.loop-i-preserved
-loop-i-preserved c =
-    let below = passed_below c.args.number c.args.chain.now c.loop-i.i c.to_pass-m.ensures c.loop-i-test.true in
-    (omega arith, c.write_driver.ensures ∙ list_turn c.args.chain.now c.args.wanted.now c.loop-i.i _ below c.args.list.now c.args.k c.loop-i.invariant.1)
-
-pub returns : goal.returns
-returns c =
-    let e : c.loop-i.i ≡ to_pass c.args.number (length c.args.chain.now) = omega (arith, c.to_pass-m.ensures) in
-    c.loop-i.invariant.1 ∙ ap (list_to c.args.chain.now c.args.wanted.now c.args.list.now c.args.k) e
+loop-i-preserved c = c.write_driver.ensures ∙ list_turn c.args.chain.now c.args.wanted.now c.loop-i.i _ c.loop-i-test.true c.args.list.now c.args.k c.loop-i.invariant

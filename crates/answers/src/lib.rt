@@ -3,6 +3,7 @@
 
 ghost use Rattle.std.specs.Prelude.{◌≡◌, [], replicate};
 ghost use Rattle.ground.specs.Lists.{tabulate};
+ghost use Rattle.refusals.specs.Numbers.{number_by};
 ghost use Rattle.device.specs.Steps.{shown_plane};
 ghost use Rattle.device.specs.Families.{interrupt_of};
 ghost use Rattle.port_states.specs.PortStates.{states_of};
@@ -14,6 +15,7 @@ use brightness::BrightnessAnswer;
 use device::Device;
 use display::SegmentAnswer;
 use look_back::LookBackAnswer;
+use refusals::Refusal;
 use words::Plane;
 
 // An answer: its number, and the plane shown, 0 for P0 and 1 for P1.
@@ -49,11 +51,11 @@ pub struct PortAnswer {
 }
 
 // No port is driven.
-pub fn ports_refused(number: u8) -> PortAnswer
-    ensures { result ≡ record { number = number; ports = replicate 28 0 } }
+pub fn ports_refused(refusal: Refusal) -> PortAnswer
+    ensures { result ≡ record { number = number_by refusal; ports = replicate 28 0 } }
 {
     PortAnswer {
-        number: number,
+        number: u8::from(refusal),
         ports: [0; 28],
     }
 }
@@ -70,20 +72,20 @@ pub fn ports(d: Device) -> PortAnswer
 }
 
 // No pin is driven.
-pub fn segments_refused(number: u8, cathode: usize, font14: &[u16], font16: &[u16]) -> SegmentAnswer
-    ensures { result ≡ record { number = number; pins = tabulate 19 (λ p. pin_code NotDriven) } }
+pub fn segments_refused(refusal: Refusal) -> SegmentAnswer
+    ensures { result ≡ record { number = number_by refusal; pins = tabulate 19 (λ p. pin_code NotDriven) } }
 {
     SegmentAnswer {
-        number: number,
+        number: u8::from(refusal),
         pins: [0; 19],
     }
 }
 
-pub fn brightness_refused(number: u8, digit: usize) -> BrightnessAnswer
-    ensures { result ≡ record { number = number; sixteenths = 0; ruler = 0 } }
+pub fn brightness_refused(refusal: Refusal) -> BrightnessAnswer
+    ensures { result ≡ record { number = number_by refusal; sixteenths = 0; ruler = 0 } }
 {
     BrightnessAnswer {
-        number: number,
+        number: u8::from(refusal),
         sixteenths: 0,
         ruler: 0,
     }
@@ -99,11 +101,11 @@ fn plane_code(plane: Plane) -> u8
     }
 }
 
-pub fn shown_refused(number: u8) -> ShownAnswer
-    ensures { result ≡ record { number = number; plane = 0 } }
+pub fn shown_refused(refusal: Refusal) -> ShownAnswer
+    ensures { result ≡ record { number = number_by refusal; plane = 0 } }
 {
     ShownAnswer {
-        number: number,
+        number: u8::from(refusal),
         plane: 0,
     }
 }
@@ -118,11 +120,11 @@ pub fn shown(d: Device) -> ShownAnswer
     }
 }
 
-pub fn interrupt_refused(number: u8) -> InterruptAnswer
-    ensures { result ≡ record { number = number; raised = 0 } }
+pub fn interrupt_refused(refusal: Refusal) -> InterruptAnswer
+    ensures { result ≡ record { number = number_by refusal; raised = 0 } }
 {
     InterruptAnswer {
-        number: number,
+        number: u8::from(refusal),
         raised: 0,
     }
 }
@@ -137,11 +139,11 @@ pub fn interrupt(d: Device) -> InterruptAnswer
     }
 }
 
-pub fn mark_refused(number: u8) -> MarkAnswer
-    ensures { result ≡ record { number = number; mark = 0 } }
+pub fn mark_refused(refusal: Refusal) -> MarkAnswer
+    ensures { result ≡ record { number = number_by refusal; mark = 0 } }
 {
     MarkAnswer {
-        number: number,
+        number: u8::from(refusal),
         mark: 0,
     }
 }
@@ -156,56 +158,31 @@ pub fn mark(d: Device) -> MarkAnswer
     }
 }
 
-pub fn look_back_refused(number: u8, plane: usize, digit: usize, words: &[u16]) -> LookBackAnswer
-    ensures { result ≡ record { number = number; byte = 0 } }
+pub fn look_back_refused(refusal: Refusal) -> LookBackAnswer
+    ensures { result ≡ record { number = number_by refusal; byte = 0 } }
 {
     LookBackAnswer {
-        number: number,
+        number: u8::from(refusal),
         byte: 0,
     }
 }
 
 // The empty part.
-pub fn plane_refused<'a>(
-    number: u8,
-    p0: &'a [u8],
-    p1: &'a [u8],
-    first: usize,
-    last: usize,
-) -> &'a [u8]
+pub fn plane_refused<'a>(p0: &'a [u8]) -> &'a [u8]
     ensures { result.now ≡ [] }
 {
     &p0[..0]
 }
 
 // Which of two lent planes a part is of.
-pub fn plane_shown_refused(
-    number: u8,
-    p0: &[u8],
-    p1: &[u8],
-    first: usize,
-    last: usize,
-) -> ShownAnswer
-    ensures { result ≡ record { number = number; plane = 0 } }
+pub fn plane_shown_refused(refusal: Refusal) -> ShownAnswer
+    ensures { result ≡ record { number = number_by refusal; plane = 0 } }
 {
-    shown_refused(number)
+    shown_refused(refusal)
 }
 
-pub fn plane_shown(d: Device, p0: &[u8], p1: &[u8], first: usize, last: usize) -> ShownAnswer
+pub fn plane_shown(d: Device) -> ShownAnswer
     ensures { result ≡ record { number = 0; plane = plane_code (shown_plane d) } }
 {
     shown(d)
-}
-
-// The number alone.
-pub fn number_refused(number: u8, p0: &[u8], p1: &[u8], first: usize, last: usize) -> u8
-    ensures { result ≡ number }
-{
-    number
-}
-
-pub fn number_served(d: Device, p0: &[u8], p1: &[u8], first: usize, last: usize) -> u8
-    ensures { result ≡ 0 }
-{
-    0
 }

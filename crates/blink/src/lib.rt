@@ -3,12 +3,14 @@
 
 ghost use Rattle.std.specs.Prelude.{◌*◌, ◌%◌, ◌^◌, ◌<◌, ◌≤◌, true, ◌≡◌};
 ghost use Rattle.ground.specs.Choice.{odd};
+ghost use Rattle.refusals.specs.Numbers.{number_of};
 ghost use Rattle.refusals.specs.Refusals.{plane_refusal};
 ghost use Rattle.blink.specs.Blink.{advanced, restarted, phase_at, shown_at};
 ghost use Rattle.blink.specs.Part.{plane_part};
 ghost use Rattle.blink.specs.Phases.{Phases};
 ghost use Rattle.blink.specs.PartDigits.{PartDigits};
 
+use refusals::Refusal;
 use words::Plane;
 
 // What is left of clocks when whole cycles of 4,000,000 are taken off in so many steps: where they fit, half of all that would be too many, then half as many.
@@ -114,23 +116,23 @@ pub fn shown(count: u32, fast: bool, blinking: bool) -> Plane
     }
 }
 
-// 6 for a lent plane not 16 long, a digit above 15, or a last digit below the first; else 0.
-pub fn plane_refusal(p0: &[u8], p1: &[u8], first: usize, last: usize) -> u8
-    ensures { result ≡ plane_refusal p0.now p1.now first last }
+// 6: a lent plane not 16 long, a digit above 15, or a last digit below the first.
+pub fn plane_refusal(p0: &[u8], p1: &[u8], first: usize, last: usize) -> Result<(), Refusal>
+    ensures { number_of result ≡ plane_refusal p0.now p1.now first last }
 {
     if p0.len() != 16 {
-        return 6;
+        return Err(Refusal::Argument);
     }
     if p1.len() != 16 {
-        return 6;
+        return Err(Refusal::Argument);
     }
     if 16 <= last {
-        return 6;
+        return Err(Refusal::Argument);
     }
     if last < first {
-        return 6;
+        return Err(Refusal::Argument);
     }
-    0
+    Ok(())
 }
 
 // Digits first to last of the plane shown, of two lent ones; the empty part where refused.
@@ -143,7 +145,7 @@ pub fn plane_part<'a>(
 ) -> &'a [u8]
     ensures { result.now ≡ plane_part shown p0.now p1.now first last }
 {
-    if plane_refusal(p0, p1, first, last) != 0 {
+    if plane_refusal(p0, p1, first, last).is_err() {
         return &p0[..0];
     }
     let end = last + 1;

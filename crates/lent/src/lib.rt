@@ -1,86 +1,77 @@
-// Passes over a lent chain of records: a call's number, the shift words, the words taken.
+// Passes over a lent chain of records: whether a call is refused, the shift words, the words taken.
 #![tactic(auto)]
 
 ghost use Rattle.std.specs.Prelude.{◌≡◌, length, take};
+ghost use Rattle.refusals.specs.Numbers.{number_of};
 ghost use Rattle.device.specs.Families.{families};
 ghost use Rattle.calls.specs.CallRefusals.{families_below, all_sound};
-ghost use Rattle.pass.specs.Found.{to_pass_in, in_room, found, records_refusal, call_refusal, row_refusal};
+ghost use Rattle.pass.specs.Own.{own_of};
+ghost use Rattle.pass.specs.Found.{in_room, found, records_refusal, call_refusal, row_refusal};
 ghost use Rattle.pass.specs.OneByOne.{words_to, taken_to};
 
 use device::Device;
-use pass::{Seen, Widths};
+use pass::{Asked, Seen, Widths};
+use refusals::Refusal;
 
-// The number of a call to a driver of a family, by the records alone, each by its own family; own is what the call is tested by beside them.
-fn records_refusal(chain: &[Device], family: u8, own: u32) -> u8
-    ensures { result ≡ records_refusal chain.now family own }
+// Whether a call to a driver of a family is refused, by the records alone, each by its own family.
+fn records_refusal(chain: &[Device], family: u8, asked: Asked) -> Result<(), Refusal>
+    ensures { number_of result ≡ records_refusal chain.now family (own_of asked) }
 {
-    let n = chain.len();
-    let mut s = Seen::new();
-    let mut i = 0;
-    while i < n {
-        s = s.with(chain[i]);
-        i += 1;
+    let mut seen = Seen::new();
+    for &d in chain {
+        seen = seen.with(d);
     }
-    pass::found_by(s, family, own)
+    pass::found_by(seen, family, asked)
 }
 
-// The number of a call that names a driver, by each record's own family.
-pub fn each_refusal(chain: &[Device], driver: usize, own: u32) -> u8
-    ensures { result ≡ call_refusal chain.now driver own }
+// Whether a call that names a driver is refused, by each record's own family.
+pub fn each_refusal(chain: &[Device], driver: usize, asked: Asked) -> Result<(), Refusal>
+    ensures { number_of result ≡ call_refusal chain.now driver (own_of asked) }
 {
-    let first = pass::by_arguments(chain.len(), driver);
-    if first != 0 {
-        return first;
-    }
+    pass::by_arguments(chain.len(), driver)?;
     let at = driver - 1;
     let family = chain[at].family;
-    records_refusal(chain, family, own)
+    records_refusal(chain, family, asked)
 }
 
 // The same, with a pass that is faster where all drivers are of the old family.
-pub fn call_refusal(chain: &[Device], driver: usize, own: u32) -> u8
-    ensures { result ≡ call_refusal chain.now driver own }
+pub fn call_refusal(chain: &[Device], driver: usize, asked: Asked) -> Result<(), Refusal>
+    ensures { number_of result ≡ call_refusal chain.now driver (own_of asked) }
 {
-    let n = chain.len();
-    let first = pass::by_arguments(n, driver);
-    let m = pass::to_pass(first, n);
-    let mut w = Widths::new();
-    let mut i = 0;
-    while i < m {
-        w = w.with(chain[i]);
-        i += 1;
+    pass::by_arguments(chain.len(), driver)?;
+    let mut widths = Widths::new();
+    for &d in chain {
+        widths = widths.with(d);
     }
-    if w.old() {
-        return pass::found_old(first, w, own);
+    if widths.old() {
+        return pass::found_old(widths, asked);
     }
-    each_refusal(chain, driver, own)
+    each_refusal(chain, driver, asked)
 }
 
-// The number of a call that asks the whole row, which no MAX6957 may be in: 1, 7 and 14.
-pub fn row_refusal(chain: &[Device]) -> u8
-    ensures { result ≡ row_refusal chain.now }
+// Whether a call that asks the whole row is refused, which no MAX6957 may be in: 1, 7 and 14.
+pub fn row_refusal(chain: &[Device]) -> Result<(), Refusal>
+    ensures { number_of result ≡ row_refusal chain.now }
 {
-    let own = pass::row_own();
-    call_refusal(chain, 1, own)
+    let asked = pass::row_own();
+    call_refusal(chain, 1, asked)
 }
 
-// The number of an access, where it is first by its arguments; and the shift words, in front of the words lent.
-pub fn shift_words(chain: &[Device], first: u8, words: &mut [u16]) -> u8
-    ensures { (result ≡ found first (all_sound (take (to_pass_in first (length chain.now) (length words.old)) chain.now)) (families_below 2 (families (take (to_pass_in first (length chain.now) (length words.old)) chain.now)))) × (words.new ≡ words_to chain.now words.old (to_pass_in first (length chain.now) (length words.old))) }
+// Whether an access is refused by the records; and the shift words, in front of the words lent, if there is room for all.
+pub fn shift_words(chain: &[Device], words: &mut [u16]) -> Result<(), Refusal>
+    ensures { (number_of result ≡ found 0 (all_sound (take (in_room (length chain.now) (length words.old)) chain.now)) (families_below 2 (families (take (in_room (length chain.now) (length words.old)) chain.now)))) × (words.new ≡ words_to chain.now words.old (in_room (length chain.now) (length words.old))) }
 {
-    let m = pass::to_pass_in(first, chain.len(), words.len());
+    let m = pass::in_room(chain.len(), words.len());
     let mut w = Widths::new();
-    let mut i = 0;
-    while i < m {
+    for i in 0..m {
         let d = chain[i];
         words[i] = d.shift;
         w = w.with(d);
-        i += 1;
     }
     if w.old() {
-        return pass::found_old(first, w, 0);
+        return pass::found_old(w, Asked::Any);
     }
-    records_refusal(chain, 0, 0)
+    records_refusal(chain, 0, Asked::Any)
 }
 
 // Every driver takes its word, in place: where its address is 0x20 or above, of the old family two bytes are stored, of a MAX6957 its stored bits and its
@@ -89,8 +80,7 @@ pub fn take_words(chain: &mut [Device], words: &[u16])
     ensures { chain.new ≡ taken_to chain.old words.now (in_room (length chain.old) (length words.now)) }
 {
     let m = pass::in_room(chain.len(), words.len());
-    let mut i = 0;
-    while i < m {
+    for i in 0..m {
         let w = words[i];
         let family = chain[i].family;
         if high_words::in_place(w, family) {
@@ -119,6 +109,5 @@ pub fn take_words(chain: &mut [Device], words: &[u16])
             chain[i].registers = high_words::low_registers(old, w);
             chain[i].answer_mark = high_words::new_mark(w);
         }
-        i += 1;
     }
 }

@@ -1,9 +1,11 @@
 -- The access by what its passes leave: the number found, the words copied, the words taken.
 --     access_number, access-refused, access-served     its outcome
 --     access_whole                                     the same where all the records are passed at once
+--     front_words, front_room                          the wire on the first of some words
+--     access_early, access_late, access_done           the same of a call that is refused by its arguments, by its records, and of one that is served
 --     length_next                                      how many words the wire leaves
 -- Assumes nothing.
-use Rattle.ground.proofs.Names.{ℕ, ◌≤◌, ◌<◌, arith, Bool, true, false, ◌&&◌, List, [], ◌∷◌, ◌++◌, map, append-nil, ◌≡◌, refl, sym, ap, ◌∙◌, eqb, leb, length, get_or, take, drop, replicate, length-append, length-drop, length-map, List·getD-append, List·getD-map, take_at, take-length, drop-length, ext_get_or, eqb-true, eq-eqb, ne_eqb, le-leb, if, tabulate, length_tabulate, get_d_tabulate, tabulate_ext}
+use Rattle.ground.proofs.Names.{ℕ, ◌≤◌, ◌<◌, arith, Bool, true, false, ◌&&◌, List, [], ◌∷◌, ◌++◌, map, append-nil, ◌≡◌, refl, sym, ap, ◌∙◌, eqb, leb, length, get_or, take, drop, replicate, length-append, length-drop, length-map, length-take-le, List·getD-append, List·getD-map, take_at, take-length, drop-length, ext_get_or, eqb-true, eq-eqb, ne_eqb, le-leb, le_refl, take-append-drop, if, tabulate, length_tabulate, get_d_tabulate, tabulate_ext}
 use Rattle.refusals.specs.Refusals.{bytes_for, chain_refusal, sound_refusal, family_refusal, first_of, size_refusal}
 use Rattle.refusals.proofs.RefusalLaws.{first_zero, found_rest}
 use Rattle.wire.specs.Shift.{fits, words_after, room_after}
@@ -121,3 +123,62 @@ module _ (ds : List Device) (c : ℕ) (sent room : List ℕ) where
     -- the same where all the records are passed, and all take a word
     pub access_whole : outcome (access c sent room) ds ≡ record { number = 0; records = taken_to ds (words_after (words_to ds zeros n) n c sent room) n; back = room_after (words_to ds zeros n) n c sent room }
     access_whole = rw (z, room_is, all_passed first_is_zero) at access_served
+
+-- the wire on the first n of some words, as a row of their own
+module _ (ws : List ℕ) (n c : ℕ) (sent room : List ℕ) (h : n ≤ length ws) where
+  abbrev front : List ℕ
+  front = take n ws
+
+  front_length : length front ≡ n
+  front_length = length-take-le n ws h
+
+  front_fits : fits front (length front) c sent room ≡ fits ws n c sent room
+  front_fits = rw (front_length, le-leb n n (le_refl n), le-leb n (length ws) h)
+
+  pub front_words : words_after front (length front) c sent room ++ drop n ws ≡ words_after ws n c sent room
+  front_words = rw (front_fits, take-length, drop-length, append-nil) (go (fits ws n c sent room))
+    where
+      go : (b : Bool) → if b (shifted front sent c) front ++ drop n ws ≡ if b (shifted front sent c ++ drop n ws) ws
+      go true = refl
+      go false = take-append-drop n ws
+
+  pub front_room : room_after front (length front) c sent room ≡ room_after ws n c sent room
+  front_room = rw (front_fits, take-length)
+
+module _ (ds : List Device) (c : ℕ) (sent room : List ℕ) where
+  abbrev size : ℕ
+  size = length ds
+
+  abbrev early : ℕ
+  early = access_by_arguments size c (length sent) (length room)
+
+  abbrev passed_in : ℕ
+  passed_in = in_room size 16
+
+  -- the number by the records, of which all are passed that have a word
+  abbrev pub late : ℕ
+  late = found 0 (all_sound (take passed_in ds)) (families_below 2 (families (take passed_in ds)))
+
+  late_number : early ≡ 0 → nr ds c sent room ≡ late
+  late_number z = rw z
+
+  pub access_early : {k : ℕ} → k ≡ early → (k ≡ 0 → ⊥) → outcome (access c sent room) ds ≡ record { number = k; records = ds; back = room }
+  access_early {k} e h =
+      let r : nr ds c sent room ≡ k = rw (ne_eqb early 0 (λ z. h (e ∙ z))) (sym e) in
+      rw (← r) (access_refused ds c sent room (λ z. h (sym r ∙ z)))
+
+  pub access_late : {k : ℕ} → 0 ≡ early → k ≡ late → (k ≡ 0 → ⊥) → outcome (access c sent room) ds ≡ record { number = k; records = ds; back = room }
+  access_late {k} z e h =
+      let r : nr ds c sent room ≡ k = late_number (sym z) ∙ sym e in
+      rw (← r) (access_refused ds c sent room (λ z. h (sym r ∙ z)))
+
+  pub access_done : {ws next back : List ℕ} {xs : List Device} → 0 ≡ early → 0 ≡ late → ws ≡ words_to ds (zeros ds c sent room) passed_in
+      → next ≡ words_after (take size ws) (length (take size ws)) c sent room → back ≡ room_after (take size ws) (length (take size ws)) c sent room
+      → xs ≡ taken_to ds (next ++ drop size ws) (in_room size (length (next ++ drop size ws)))
+      → outcome (access c sent room) ds ≡ record { number = 0; records = xs; back = back }
+  access_done {ws} z l w e f g =
+      let r : nr ds c sent room ≡ 0 = late_number (sym z) ∙ sym l in
+      let p : m ds c sent room ≡ passed_in = rw (← z) in
+      let w' : ws ≡ words_to ds (zeros ds c sent room) (m ds c sent room) = rw p w in
+      let h : size ≤ length ws = omega (arith, ap length w', length_words_to ds c sent room r, short ds c sent room (sym z)) in
+      rw (g, e, f, front_words ws size c sent room h, front_room ws size c sent room h, w') (rw r at (access_served ds c sent room r))

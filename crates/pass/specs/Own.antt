@@ -1,9 +1,11 @@
--- Auxiliary: what a call is tested by beside the records, as one number of six hexadecimal digits. `refusal_by` of `calls` is what is believed.
+-- Auxiliary: what a call is tested by beside the records, as one number of six hexadecimal digits; `own_of` is that number of what is asked. `refusal_by` of `calls` is what is believed.
 -- Assumes nothing.
 use Rattle.std.specs.Prelude.{ℕ, ◌+◌, ◌*◌, ◌/◌, ◌%◌, Bool, eqb, ltb}
 use Rattle.ground.specs.Choice.{if}
 use Rattle.calls.specs.Calls.{Step, scan, levels, clocks, Question, plane, plane_shown, segments, brightness, shown, interrupt, answer_mark, look_back, ports}
 use Rattle.calls.specs.CallRefusals.{question_refusal}
+use Rattle.pass.specs.declared.Asked.{Asked}
+use Rattle.pass.specs.declared.Asked.TheVariants.{Display, Levels, Any, Ports, Row}
 
 -- 6, by the family of the driver: the lowest digit of the old family, the next of a MAX6957, the third of an unknown one
 abbrev pub argument_at : ℕ → ℕ → ℕ
@@ -42,3 +44,11 @@ question_own interrupt = 0
 question_own answer_mark = 0
 question_own (look_back p i ws) = display_own (question_refusal (look_back p i ws))
 question_own ports = 0xE000
+
+-- of what is asked
+abbrev pub own_of : Asked → ℕ
+own_of (Display fits) = display_own (if fits 0 6)
+own_of (Levels l) = step_own (levels l)
+own_of Any = 0
+own_of Ports = 0xE000
+own_of Row = row_own

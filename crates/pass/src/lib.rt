@@ -1,16 +1,18 @@
-// A call's number by value: by its arguments, and by a pass over the records of a chain.
+// Whether a call is refused, by value: by its arguments, and by a pass over the records of a chain.
 #![tactic(auto)]
 
-ghost use Rattle.std.specs.Prelude.{◌≡◌, eqb, ltb, ◌<◌};
+ghost use Rattle.std.specs.Prelude.{◌≡◌, ltb};
 ghost use Rattle.ground.specs.Choice.{if};
+ghost use Rattle.refusals.specs.Numbers.{number_of};
 ghost use Rattle.refusals.specs.Refusals.{chain_refusal, driver_refusal, sound_refusal, family_refusal};
 ghost use Rattle.calls.specs.Calls.{scan, levels as pin_levels, clocks as master_clocks, plane, segments, brightness, shown, interrupt, answer_mark, look_back, ports};
-ghost use Rattle.pass.specs.Widths.{Bytes, eight_bytes, four_bytes, two_bytes, greater, no_widths, widths_with, fit, all_old};
-ghost use Rattle.pass.specs.Own.{argument_at, lack_at, row_lack_at, display_own, row_own, step_own, question_own};
+ghost use Rattle.pass.specs.Widths.{Bytes, no_widths, widths_with, fit, all_old};
+ghost use Rattle.pass.specs.Own.{argument_at, lack_at, row_lack_at, row_own, step_own, question_own, own_of};
 ghost use Rattle.pass.specs.Seen.{no_seen, seen_with, seen_fit};
-ghost use Rattle.pass.specs.Found.{by_arguments, access_by_arguments, to_pass, to_pass_in, in_room, found, found_old, found_by};
+ghost use Rattle.pass.specs.Found.{by_arguments, access_by_arguments, to_pass, in_room, found, found_old, found_by};
 
 use device::Device;
+use refusals::Refusal;
 
 // What the records passed so far tell of soundness: the bits of their fields, one over the other.
 #[derive(Clone, Copy)]
@@ -25,41 +27,6 @@ pub struct Widths {
     pub interrupt: u8,
     // A byte each: the fitted byte, the answer mark, the command address and the family.
     pub ends: u32,
-}
-
-// Eight bytes in a row, the first lowest.
-fn eight_bytes(a: u8, b: u8, c: u8, d: u8, e: u8, f: u8, g: u8, h: u8) -> u64
-    ensures { result ≡ eight_bytes a b c d e f g h }
-{
-    a as u64
-        + b as u64 * 256
-        + c as u64 * 65536
-        + d as u64 * 16777216
-        + e as u64 * 4294967296
-        + f as u64 * 1099511627776
-        + g as u64 * 281474976710656
-        + h as u64 * 72057594037927936
-}
-
-// Four bytes in a row, the first lowest.
-fn four_bytes(a: u8, b: u8, c: u8, d: u8) -> u32
-    ensures { result ≡ four_bytes a b c d }
-{
-    a as u32 + b as u32 * 256 + c as u32 * 65536 + d as u32 * 16777216
-}
-
-// Two bytes in a row, the first lowest.
-fn two_bytes(a: u8, b: u8) -> u16
-    ensures { result ≡ two_bytes a b }
-{
-    a as u16 + b as u16 * 256
-}
-
-// The greater of two numbers.
-fn greater(a: u32, b: u32) -> u32
-    ensures { result ≡ greater a b }
-{
-    if a < b { b } else { a }
 }
 
 impl Widths {
@@ -86,16 +53,16 @@ impl Widths {
         let c = x.controls;
         let f = x.config;
         let k = x.keys;
-        let first = eight_bytes(
+        let first = u64::from_le_bytes([
             c.global, c.limit, c.gpio, c.ports, c.test, c.types, f.i, f.e,
-        );
+        ]);
         Widths {
             first: self.first | first,
-            last: self.last | two_bytes(f.b, f.s),
+            last: self.last | u16::from_le_bytes([f.b, f.s]),
             pins: self.pins | x.pins,
-            blink: greater(self.blink, x.blink),
+            blink: self.blink.max(x.blink),
             interrupt: self.interrupt | k.interrupt,
-            ends: self.ends | four_bytes(d.fitted, d.answer_mark, d.command, d.family),
+            ends: self.ends | u32::from_le_bytes([d.fitted, d.answer_mark, d.command, d.family]),
         }
     }
 
@@ -168,7 +135,7 @@ impl Seen {
         let f = x.config;
         let t = x.transition;
         if d.family == 1 {
-            let first = eight_bytes(
+            let first = u64::from_le_bytes([
                 x.global,
                 x.test,
                 f.m,
@@ -177,7 +144,7 @@ impl Seen {
                 t.mask,
                 t.snapshot,
                 t.detecting,
-            );
+            ]);
             return Seen {
                 sound: self.sound,
                 stored: self.stored | x.stored,
@@ -217,100 +184,118 @@ impl Seen {
     }
 }
 
-// What a call is tested by beside the records is one number of six hexadecimal digits, lowest first:
-// 6 where its arguments are refused, of a driver of the old family, of a MAX6957 and of an unknown family;
-// 14 where the old family, where a MAX6957 lacks it; 14 where it is lacked if any driver of the row is a MAX6957.
-
-// 6, by the family of the driver.
-fn argument(own: u32, family: u8) -> u8
-    ensures { result ≡ argument_at own family }
-{
-    if family == 0 {
-        return (own & 15) as u8;
-    }
-    if family == 1 {
-        return ((own >> 4) & 15) as u8;
-    }
-    ((own >> 8) & 15) as u8
+// What a call is tested by beside the records.
+#[derive(Clone, Copy, Debug, PartialEq, Eq)]
+pub enum Asked {
+    // Of the display, which a MAX6957 lacks; and whether the arguments are in range.
+    Display(bool),
+    // Pin levels: their range is by the family of the driver.
+    Levels(u32),
+    // What every driver has.
+    Any,
+    // The ports, which the old family lacks.
+    Ports,
+    // The whole row, in which there may be no MAX6957.
+    Row,
 }
 
-// 14, by the same.
-fn lack(own: u32, family: u8) -> u8
-    ensures { result ≡ lack_at own family }
+// Whether pin levels are in range, by the family of the driver; of an unknown one they are not tested.
+fn levels_fit(levels: u32, family: u8) -> bool
+    ensures { (if result 0 6) ≡ argument_at (step_own (pin_levels levels)) family }
 {
-    if family == 0 {
-        return ((own >> 12) & 15) as u8;
+    match family {
+        0 => levels < 32,
+        1 => levels < 268435456,
+        _ => true,
     }
-    if family == 1 {
-        return ((own >> 16) & 15) as u8;
-    }
-    0
 }
 
-// 14, by whether all drivers of the row are of the old family.
-fn row_lack(own: u32, old: bool) -> u8
-    ensures { result ≡ row_lack_at own old }
-{
-    if old {
-        return 0;
+impl Asked {
+    // 6: an argument out of its range, by the family of the driver.
+    fn argument(self, family: u8) -> Result<(), Refusal>
+        ensures { number_of result ≡ argument_at (own_of self) family }
+    {
+        let fits = match self {
+            Self::Display(fits) => fits,
+            Self::Levels(levels) => levels_fit(levels, family),
+            _ => true,
+        };
+        if fits { Ok(()) } else { Err(Refusal::Argument) }
     }
-    ((own >> 20) & 15) as u8
-}
 
-// Of a call that a MAX6957 lacks, whose arguments give k.
-fn display(k: u8) -> u32
-    ensures { result ≡ display_own k }
-{
-    if k == 0 { 0xE0000 } else { 0xE0666 }
-}
+    // 14: a driver of the family lacks it.
+    fn lack(self, family: u8) -> Result<(), Refusal>
+        ensures { number_of result ≡ lack_at (own_of self) family }
+    {
+        let lacks = match self {
+            Self::Display(_) => family == 1,
+            Self::Ports => family == 0,
+            _ => false,
+        };
+        if lacks { Err(Refusal::Lacked) } else { Ok(()) }
+    }
 
-// The first of two numbers that isn't 0.
-fn first_of(a: u8, b: u8) -> u8
-    ensures { result ≡ if (eqb a 0) b a }
-{
-    if a == 0 { b } else { a }
+    // 14: the row lacks it, by whether all its drivers are of the old family.
+    fn row_lack(self, old: bool) -> Result<(), Refusal>
+        ensures { number_of result ≡ row_lack_at (own_of self) old }
+    {
+        match self {
+            Self::Row if !old => Err(Refusal::Lacked),
+            _ => Ok(()),
+        }
+    }
 }
 
 // 1: the chain has 0 or more than 16 records.
-fn chain_refusal(n: usize) -> u8
-    ensures { result ≡ chain_refusal n }
+fn chain_refusal(n: usize) -> Result<(), Refusal>
+    ensures { number_of result ≡ chain_refusal n }
 {
-    if (0 < n) & (n < 17) { 0 } else { 1 }
+    if (0 < n) & (n < 17) {
+        Ok(())
+    } else {
+        Err(Refusal::Chain)
+    }
 }
 
 // 2: driver number not in 1..n.
-fn driver_refusal(n: usize, driver: usize) -> u8
-    ensures { result ≡ driver_refusal n driver }
+fn driver_refusal(n: usize, driver: usize) -> Result<(), Refusal>
+    ensures { number_of result ≡ driver_refusal n driver }
 {
-    if (0 < driver) & (driver <= n) { 0 } else { 2 }
+    if (0 < driver) & (driver <= n) {
+        Ok(())
+    } else {
+        Err(Refusal::Driver)
+    }
 }
 
 // 7: some record isn't sound.
-fn sound_refusal(sound: bool) -> u8
-    ensures { result ≡ sound_refusal sound }
+fn sound_refusal(sound: bool) -> Result<(), Refusal>
+    ensures { number_of result ≡ sound_refusal sound }
 {
-    if sound { 0 } else { 7 }
+    if sound { Ok(()) } else { Err(Refusal::Unsound) }
 }
 
 // 14: the family of some record is too high.
-fn family_refusal(known: bool) -> u8
-    ensures { result ≡ family_refusal known }
+fn family_refusal(known: bool) -> Result<(), Refusal>
+    ensures { number_of result ≡ family_refusal known }
 {
-    if known { 0 } else { 14 }
+    if known { Ok(()) } else { Err(Refusal::Lacked) }
 }
 
-// The number of a call that names a driver, by these alone.
-pub fn by_arguments(n: usize, driver: usize) -> u8
-    ensures { result ≡ by_arguments n driver }
+// Whether a call that names a driver is refused by these alone.
+pub fn by_arguments(n: usize, driver: usize) -> Result<(), Refusal>
+    ensures { number_of result ≡ by_arguments n driver }
 {
-    first_of(chain_refusal(n), driver_refusal(n, driver))
+    chain_refusal(n)?;
+    driver_refusal(n, driver)
 }
 
-// The number of an access, by its arguments.
-pub fn access_by_arguments(n: usize, clocks: usize, sent: usize, room: usize) -> u8
-    ensures { result ≡ access_by_arguments n clocks sent room }
+// Whether an access is refused by its arguments.
+pub fn access_by_arguments(n: usize, clocks: usize, sent: usize, room: usize) -> Result<(), Refusal>
+    ensures { number_of result ≡ access_by_arguments n clocks sent room }
 {
-    first_of(chain_refusal(n), refusals::size_refusal(clocks, sent, room))
+    chain_refusal(n)?;
+    refusals::size_refusal(clocks, sent, room)
 }
 
 // How many records are passed over: none where the number is known.
@@ -320,151 +305,121 @@ pub fn to_pass(first: u8, n: usize) -> usize
     if first == 0 { n } else { 0 }
 }
 
-// The same where there may be no room for their words among w: then none.
-pub fn to_pass_in(first: u8, n: usize, w: usize) -> usize
-    ensures { result ≡ to_pass_in first n w }
-{
-    if (first == 0) & (n <= w) { n } else { 0 }
-}
-
-// How many of n records take one of w words: all or none.
+// How many of n records have one of w words: all or none.
 pub fn in_room(n: usize, w: usize) -> usize
     ensures { result ≡ in_room n w }
 {
     if n <= w { n } else { 0 }
 }
 
-// The number of an access once the records are passed.
-pub fn found(first: u8, seen: Seen) -> u8
-    ensures { result ≡ found first (seen_fit seen) (ltb seen.families 2) }
+// Whether an access is refused by the records.
+pub fn found(seen: Seen) -> Result<(), Refusal>
+    ensures { number_of result ≡ found 0 (seen_fit seen) (ltb seen.families 2) }
 {
-    if first != 0 {
-        return first;
-    }
-    first_of(sound_refusal(seen.fit()), family_refusal(seen.families < 2))
+    sound_refusal(seen.fit())?;
+    family_refusal(seen.families < 2)
 }
 
-// The number of a call whose records, once passed, are all of the old family.
-pub fn found_old(first: u8, widths: Widths, own: u32) -> u8
-    ensures { result ≡ found_old first (fit widths) own }
+// Whether a call is refused whose records are all of the old family.
+pub fn found_old(widths: Widths, asked: Asked) -> Result<(), Refusal>
+    ensures { number_of result ≡ found_old 0 (fit widths) (own_of asked) }
 {
-    if first != 0 {
-        return first;
-    }
-    let later = first_of(sound_refusal(widths.fit()), ((own >> 12) & 15) as u8);
-    first_of((own & 15) as u8, later)
+    asked.argument(0)?;
+    sound_refusal(widths.fit())?;
+    asked.lack(0)
 }
 
-// The number of a call to a driver of a family, by the records alone.
-pub fn found_by(seen: Seen, family: u8, own: u32) -> u8
-    ensures { result ≡ found_by (seen_fit seen) (ltb seen.families 2) (ltb seen.families 1) own family }
+// Whether a call to a driver of a family is refused, by the records alone.
+pub fn found_by(seen: Seen, family: u8, asked: Asked) -> Result<(), Refusal>
+    ensures { number_of result ≡ found_by (seen_fit seen) (ltb seen.families 2) (ltb seen.families 1) (own_of asked) family }
 {
-    let lacked = first_of(lack(own, family), row_lack(own, seen.families < 1));
-    let last = first_of(family_refusal(seen.families < 2), lacked);
-    let later = first_of(sound_refusal(seen.fit()), last);
-    first_of(argument(own, family), later)
+    asked.argument(family)?;
+    sound_refusal(seen.fit())?;
+    family_refusal(seen.families < 2)?;
+    asked.lack(family)?;
+    asked.row_lack(seen.families < 1)
 }
 
 // Keys that a scan gives: none is refused.
-pub fn scan_refusal(a: u8, b: u8, c: u8, d: u8) -> u32
-    ensures { result ≡ step_own (scan a b c d) }
+pub fn scan_refusal(a: u8, b: u8, c: u8, d: u8) -> Asked
+    ensures { own_of result ≡ step_own (scan a b c d) }
 {
-    display(0)
-}
-
-// 6 where a test refuses.
-fn six_where(refused: bool) -> u32
-    ensures { (result ≡ if refused 6 0) × (result < 7) }
-{
-    if refused { 6 } else { 0 }
+    Asked::Display(true)
 }
 
 // Pin levels: 6 above 31, or of a MAX6957 above 28 bits.
-pub fn levels_refusal(levels: u32) -> u32
-    ensures { result ≡ step_own (pin_levels levels) }
+pub fn levels_refusal(levels: u32) -> Asked
+    ensures { own_of result ≡ step_own (pin_levels levels) }
 {
-    six_where(31 < levels) + six_where(268435455 < levels) * 16
+    Asked::Levels(levels)
 }
 
 // Clocks: none are refused.
-pub fn clocks_refusal(clocks: u32) -> u32
-    ensures { result ≡ step_own (master_clocks clocks) }
+pub fn clocks_refusal(clocks: u32) -> Asked
+    ensures { own_of result ≡ step_own (master_clocks clocks) }
 {
-    display(0)
+    Asked::Display(true)
 }
 
 // 6: a lent plane not 16 long, a digit above 15, or a last digit below the first.
-pub fn plane_refusal<'a>(p0: &'a [u8], p1: &'a [u8], first: usize, last: usize) -> u32
-    ensures { result ≡ question_own (plane p0.now p1.now first last) }
+pub fn plane_refusal(p0: &[u8], p1: &[u8], first: usize, last: usize) -> Asked
+    ensures { own_of result ≡ question_own (plane p0.now p1.now first last) }
 {
-    display(blink::plane_refusal(p0, p1, first, last))
-}
-
-// The same, of planes lent apart.
-pub fn part_refusal(p0: &[u8], p1: &[u8], first: usize, last: usize) -> u32
-    ensures { result ≡ question_own (plane p0.now p1.now first last) }
-{
-    display(blink::plane_refusal(p0, p1, first, last))
+    Asked::Display(blink::plane_refusal(p0, p1, first, last).is_ok())
 }
 
 // 6: a cathode above 7, or a glyph table not 128 long.
-pub fn segments_refusal(cathode: usize, font14: &[u16], font16: &[u16]) -> u32
-    ensures { result ≡ question_own (segments cathode font14.now font16.now) }
+pub fn segments_refusal(cathode: usize, font14: &[u16], font16: &[u16]) -> Asked
+    ensures { own_of result ≡ question_own (segments cathode font14.now font16.now) }
 {
-    display(shown_pins::segments_refusal(cathode, font14, font16))
+    Asked::Display(shown_pins::segments_refusal(cathode, font14, font16).is_ok())
 }
 
 // 6: a digit above 15.
-pub fn brightness_refusal(digit: usize) -> u32
-    ensures { result ≡ question_own (brightness digit) }
+pub fn brightness_refusal(digit: usize) -> Asked
+    ensures { own_of result ≡ question_own (brightness digit) }
 {
-    if digit < 16 {
-        return display(0);
-    }
-    display(6)
+    Asked::Display(digit < 16)
 }
 
 // The plane shown: every driver but a MAX6957 may be asked for it.
-pub fn shown_refusal() -> u32
-    ensures { result ≡ question_own shown }
+pub fn shown_refusal() -> Asked
+    ensures { own_of result ≡ question_own shown }
 {
-    display(0)
+    Asked::Display(true)
 }
 
 // The interrupt: every driver may.
-pub fn interrupt_refusal() -> u32
-    ensures { result ≡ question_own interrupt }
+pub fn interrupt_refusal() -> Asked
+    ensures { own_of result ≡ question_own interrupt }
 {
-    0
+    Asked::Any
 }
 
 // And the answer mark.
-pub fn mark_refusal() -> u32
-    ensures { result ≡ question_own answer_mark }
+pub fn mark_refusal() -> Asked
+    ensures { own_of result ≡ question_own answer_mark }
 {
-    0
+    Asked::Any
 }
 
 // 6: a plane above 1, or a digit above 15.
-pub fn look_back_refusal(plane: usize, digit: usize, words: &[u16]) -> u32
-    ensures { result ≡ question_own (look_back plane digit words.now) }
+pub fn look_back_refusal(plane: usize, digit: usize, words: &[u16]) -> Asked
+    ensures { own_of result ≡ question_own (look_back plane digit words.now) }
 {
-    if (plane < 2) & (digit < 16) {
-        return display(0);
-    }
-    display(6)
+    Asked::Display((plane < 2) & (digit < 16))
 }
 
 // What the ports drive: the old family lacks it.
-pub fn ports_refusal() -> u32
-    ensures { result ≡ question_own ports }
+pub fn ports_refusal() -> Asked
+    ensures { own_of result ≡ question_own ports }
 {
-    0xE000
+    Asked::Ports
 }
 
 // What is asked of the whole row: a MAX6957 anywhere in it lacks it.
-pub fn row_own() -> u32
-    ensures { result ≡ row_own }
+pub fn row_own() -> Asked
+    ensures { own_of result ≡ row_own }
 {
-    0xE00000
+    Asked::Row
 }

@@ -57,21 +57,21 @@ pub fn number<T: Drop>(outcome: Result<T, Refusal>) -> u8
     }
 }
 
-// The lowest of 3, 4 and 5 that applies to an access, else 0.
-pub fn size_refusal(clocks: usize, sent: usize, room: usize) -> u8
-    ensures { result ≡ size_refusal clocks sent room }
+// The lowest of 3, 4 and 5 that applies to an access.
+pub fn size_refusal(clocks: usize, sent: usize, room: usize) -> Result<(), Refusal>
+    ensures { number_of result ≡ size_refusal clocks sent room }
 {
     if 4096 < clocks {
-        return 3;
+        return Err(Refusal::Clocks);
     }
     let count = (clocks + 7) / 8;
     if sent < count {
-        return 4;
+        return Err(Refusal::Sent);
     }
     if room < count {
-        return 5;
+        return Err(Refusal::Room);
     }
-    0
+    Ok(())
 }
 
 // A theorem: the numbers 3, 4 and 5 of an access, by bits.

@@ -7,12 +7,15 @@ ghost use Rattle.calls.specs.Calls.{access as access_call, give, scan as scan_st
 ghost use Rattle.device.specs.Families.{families};
 ghost use Rattle.calls.specs.CallRefusals.{families_below, all_sound};
 ghost use Rattle.pass.specs.Seen.{no_seen, seen_of};
-ghost use Rattle.pass.specs.Found.{found, call_refusal};
+ghost use Rattle.refusals.specs.Numbers.{number_of, number_by};
+ghost use Rattle.pass.specs.Own.{own_of};
+ghost use Rattle.pass.specs.Found.{access_by_arguments, found, call_refusal};
 ghost use Rattle.pass.specs.OneByOne.{words_to, taken_to};
 ghost use Rattle.row.specs.Row.{fresh, records, reply_on, done_on, shown_on};
 
 use device::Device;
-use pass::Seen;
+use pass::{Asked, Seen};
+use refusals::Refusal;
 
 // A chain of n drivers: the first n of sixteen records. A length above 16 counts as 16.
 #[derive(Clone, Copy)]
@@ -61,36 +64,32 @@ impl Row {
         ensures { result ≡ seen_of no_seen (take n self.devices) }
     {
         let mut w = Seen::new();
-        let mut i = 0;
-        while i < n {
+        for i in 0..n {
             let d = self.devices[i];
             w = w.with(d);
-            i += 1;
         }
         w
     }
 
-    // The number of an access, from that by its arguments.
-    fn found(self, first: u8) -> u8
-        ensures { result ≡ found first (all_sound (records self)) (families_below 2 (families (records self))) }
+    // Whether an access is refused, by its arguments and then by the records.
+    fn found(self, clocks: usize, sent: usize, room: usize) -> Result<(), Refusal>
+        ensures { number_of result ≡ found (access_by_arguments (length (records self)) clocks sent room) (all_sound (records self)) (families_below 2 (families (records self))) }
     {
         let n = self.length();
-        let w = self.seen(pass::to_pass(first, n));
-        pass::found(first, w)
+        pass::access_by_arguments(n, clocks, sent, room)?;
+        pass::found(self.seen(n))
     }
 
-    // The number of a call that names a driver; own is what the call is tested by. Where it is 0 the driver is one of the sixteen.
-    fn number(self, driver: usize, own: u32) -> u8
-        ensures { (result ≡ call_refusal (records self) driver own) × (result ≡ 0 → (1 ≤ driver) × (driver ≤ 16)) }
+    // Whether a call that names a driver is refused. Where it isn't the driver is one of the sixteen.
+    fn refusal(self, driver: usize, asked: Asked) -> Result<(), Refusal>
+        ensures number { number_of result ≡ call_refusal (records self) driver (own_of asked) }
+        ensures there { number_of result ≡ 0 → (1 ≤ driver) × (driver ≤ 16) }
     {
         let n = self.length();
-        let first = pass::by_arguments(n, driver);
-        if first != 0 {
-            return first;
-        }
+        pass::by_arguments(n, driver)?;
         let w = self.seen(n);
         let d = self.named(driver);
-        pass::found_by(w, d.family, own)
+        pass::found_by(w, d.family, asked)
     }
 
     // The record of the driver named; past the sixteen, one at power-up.
@@ -107,11 +106,12 @@ impl Row {
     }
 
     // A call that is refused: nothing changes.
-    fn refused(self, refusal: u8) -> Done
-        ensures { result ≡ record { number = refusal; row = self } }
+    fn refused(self, refusal: Refusal) -> Done
+        ensures { result ≡ record { number = number_by refusal; row = self } }
     {
+        let number = u8::from(refusal);
         Done {
-            number: refusal,
+            number: number,
             row: self,
         }
     }
@@ -133,36 +133,39 @@ impl Row {
     pub fn scan(self, driver: usize, a: u8, b: u8, c: u8, d: u8) -> Done
         ensures { result ≡ done_on self (give driver (scan_step a b c d)) }
     {
-        let number = self.number(driver, pass::scan_refusal(a, b, c, d));
-        if number != 0 {
-            return self.refused(number);
+        match self.refusal(driver, pass::scan_refusal(a, b, c, d)) {
+            Ok(()) => {
+                let old = self.named(driver);
+                self.served(driver, old.scanned(a, b, c, d))
+            }
+            Err(refusal) => self.refused(refusal),
         }
-        let old = self.named(driver);
-        self.served(driver, old.scanned(a, b, c, d))
     }
 
     // The pin levels of one driver.
     pub fn set_pins(self, driver: usize, levels: u32) -> Done
         ensures { result ≡ done_on self (give driver (levels_step levels)) }
     {
-        let number = self.number(driver, pass::levels_refusal(levels));
-        if number != 0 {
-            return self.refused(number);
+        match self.refusal(driver, pass::levels_refusal(levels)) {
+            Ok(()) => {
+                let old = self.named(driver);
+                self.served(driver, old.with_pins(levels))
+            }
+            Err(refusal) => self.refused(refusal),
         }
-        let old = self.named(driver);
-        self.served(driver, old.with_pins(levels))
     }
 
     // Master clocks given to one driver.
     pub fn add_clocks(self, driver: usize, clocks: u32) -> Done
         ensures { result ≡ done_on self (give driver (clocks_step clocks)) }
     {
-        let number = self.number(driver, pass::clocks_refusal(clocks));
-        if number != 0 {
-            return self.refused(number);
+        match self.refusal(driver, pass::clocks_refusal(clocks)) {
+            Ok(()) => {
+                let old = self.named(driver);
+                self.served(driver, old.clocked(clocks))
+            }
+            Err(refusal) => self.refused(refusal),
         }
-        let old = self.named(driver);
-        self.served(driver, old.clocked(clocks))
     }
 
     // The shift words of the first n of sixteen records, then 0.
@@ -171,11 +174,9 @@ impl Row {
         ensures { result ≡ words_to self.devices (replicate 16 0) n }
     {
         let mut words = [0; 16];
-        let mut k = 0;
-        while k < n {
+        for k in 0..n {
             let d = self.devices[k];
             words[k] = d.shift;
-            k += 1;
         }
         words
     }
@@ -185,11 +186,9 @@ impl Row {
         requires { n ≤ 16 }
         ensures { result ≡ record { n = self.n; devices = taken_to self.devices words n } }
     {
-        let mut at = 0;
-        while at < n {
+        for at in 0..n {
             let old = self.devices[at];
             self.devices[at] = old.taken(words[at]);
-            at += 1;
         }
         self
     }
@@ -198,17 +197,17 @@ impl Row {
     pub fn access(self, clocks: usize, sent: &[u8], room: &mut [u8]) -> Done
         ensures { (result ≡ done_on self (access_call clocks sent.now room.old)) × (room.new ≡ reply_on self (access_call clocks sent.now room.old)) }
     {
-        let n = self.length();
-        let first = pass::access_by_arguments(n, clocks, sent.len(), room.len());
-        let number = self.found(first);
-        if number != 0 {
-            return self.refused(number);
-        }
-        let mut words = self.shift_words(n);
-        wire::shift(&mut words, n, clocks, sent, room);
-        Done {
-            number: 0,
-            row: self.all_taken(n, words),
+        match self.found(clocks, sent.len(), room.len()) {
+            Ok(()) => {
+                let n = self.length();
+                let mut words = self.shift_words(n);
+                wire::shift(&mut words[..n], clocks, sent, room);
+                Done {
+                    number: 0,
+                    row: self.all_taken(n, words),
+                }
+            }
+            Err(refusal) => self.refused(refusal),
         }
     }
 
@@ -216,22 +215,22 @@ impl Row {
     pub fn show(self, driver: usize, cathode: usize, font14: &[u16], font16: &[u16]) -> Shown
         ensures { result ≡ shown_on self driver (segments_question cathode font14.now font16.now) }
     {
-        let own = pass::segments_refusal(cathode, font14, font16);
-        let number = self.number(driver, own);
-        if number != 0 {
-            return Shown {
-                number: number,
+        match self.refusal(driver, pass::segments_refusal(cathode, font14, font16)) {
+            Ok(()) => {
+                let asked = self.named(driver);
+                let answer = shown_pins::segments(asked, cathode, font14, font16);
+                let pins = answer.pins;
+                Shown {
+                    number: 0,
+                    pins: pins,
+                    mark: asked.answer_mark,
+                }
+            }
+            Err(refusal) => Shown {
+                number: u8::from(refusal),
                 pins: [0; 19],
                 mark: 0,
-            };
-        }
-        let asked = self.named(driver);
-        let answer = shown_pins::segments(asked, cathode, font14, font16);
-        let pins = answer.pins;
-        Shown {
-            number: 0,
-            pins: pins,
-            mark: asked.answer_mark,
+            },
         }
     }
 }

@@ -4,6 +4,7 @@
 ghost use Rattle.std.specs.Prelude.{◌≡◌, ◌*◌, ◌<◌};
 ghost use Rattle.ground.specs.Choice.{bit};
 ghost use Rattle.ground.specs.Lists.{tabulate};
+ghost use Rattle.refusals.specs.Numbers.{number_of};
 ghost use Rattle.refusals.specs.Refusals.{segments_refusal};
 ghost use Rattle.wiring.specs.PackedRows.{byte_of};
 ghost use Rattle.display.specs.Cathode.{display_by};
@@ -13,6 +14,7 @@ ghost use Rattle.shown_pins.specs.PackedPins.{ones, carried_by, nonzero_bytes, e
 
 use device::Device;
 use display::SegmentAnswer;
+use refusals::Refusal;
 use wiring::{Display, PackedPins, PackedRow};
 
 // Seventeen bits: every segment that a display may have.
@@ -172,18 +174,14 @@ fn pins_shown(device: Device, cathode: usize, font14: &[u16], font16: &[u16]) ->
     pins_by(!(segments as u64), row)
 }
 
-// 6 for a cathode above 7 or a glyph table not 128 long, else 0.
-pub fn segments_refusal(cathode: usize, font14: &[u16], font16: &[u16]) -> u8
-    ensures { result ≡ segments_refusal cathode font14.now font16.now }
+// 6: a cathode above 7, or a glyph table not 128 long.
+pub fn segments_refusal(cathode: usize, font14: &[u16], font16: &[u16]) -> Result<(), Refusal>
+    ensures { number_of result ≡ segments_refusal cathode font14.now font16.now }
 {
-    if cathode < 8 {
-        if font14.len() == 128 {
-            if font16.len() == 128 { 0 } else { 6 }
-        } else {
-            6
-        }
+    if (cathode < 8) & (font14.len() == 128) & (font16.len() == 128) {
+        Ok(())
     } else {
-        6
+        Err(Refusal::Argument)
     }
 }
 
@@ -191,17 +189,14 @@ pub fn segments_refusal(cathode: usize, font14: &[u16], font16: &[u16]) -> u8
 pub fn segments(device: Device, cathode: usize, font14: &[u16], font16: &[u16]) -> SegmentAnswer
     ensures { result ≡ segments_of device cathode font14.now font16.now }
 {
-    let number = segments_refusal(cathode, font14, font16);
-    if number == 0 {
-        let pins = pins_shown(device, cathode, font14, font16);
-        SegmentAnswer {
-            number: number,
-            pins: pins,
-        }
-    } else {
-        SegmentAnswer {
-            number: number,
+    match segments_refusal(cathode, font14, font16) {
+        Ok(()) => SegmentAnswer {
+            number: 0,
+            pins: pins_shown(device, cathode, font14, font16),
+        },
+        Err(refusal) => SegmentAnswer {
+            number: u8::from(refusal),
             pins: [0; 19],
-        }
+        },
     }
 }

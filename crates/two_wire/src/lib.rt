@@ -14,7 +14,7 @@ pub fn max6955_start(parts: &[Device], bus: Bus, straps: Straps) -> BusAnswer
     ensures { bus_outcome straps.addresses start bus parts.now ≡ record { number = result.number; bus = result.bus; records = parts.now; back = [] } }
 {
     let n = parts.len();
-    let early = lent::row_refusal(parts);
+    let early = refusals::number(lent::row_refusal(parts));
     transfers::start_answer(early, n, bus, straps)
 }
 
@@ -23,7 +23,7 @@ pub fn max6955_stop(parts: &[Device], bus: Bus, straps: Straps) -> BusAnswer
     ensures { bus_outcome straps.addresses stop bus parts.now ≡ record { number = result.number; bus = result.bus; records = parts.now; back = [] } }
 {
     let n = parts.len();
-    let early = lent::row_refusal(parts);
+    let early = refusals::number(lent::row_refusal(parts));
     transfers::stop_answer(early, n, bus, straps)
 }
 
@@ -32,7 +32,7 @@ pub fn max6955_write(parts: &mut [Device], bus: Bus, straps: Straps, byte: u8) -
     ensures { bus_outcome straps.addresses (put byte) bus parts.old ≡ record { number = result.number; bus = result.bus; records = parts.new; back = result.acknowledged ∷ result.«data» ∷ [] } }
 {
     let n = parts.len();
-    let early = lent::row_refusal(parts);
+    let early = refusals::number(lent::row_refusal(parts));
     let part = transfers::part_open(early, n, bus, straps);
     if part == 0 {
         return transfers::write_free(early, n, bus, straps, byte);
@@ -48,7 +48,7 @@ pub fn max6955_read(parts: &mut [Device], bus: Bus, straps: Straps) -> ByteAnswe
     ensures { bus_outcome straps.addresses get bus parts.old ≡ record { number = result.number; bus = result.bus; records = parts.new; back = result.acknowledged ∷ result.«data» ∷ [] } }
 {
     let n = parts.len();
-    let early = lent::row_refusal(parts);
+    let early = refusals::number(lent::row_refusal(parts));
     let part = transfers::part_open(early, n, bus, straps);
     if part == 0 {
         return transfers::read_free(early, n, bus, straps);

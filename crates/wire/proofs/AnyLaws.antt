@@ -1,6 +1,6 @@
 -- An access of any number of clocks.
 -- Assumes nothing.
-use Rattle.ground.proofs.Names.{ℕ, zero, suc, ◌+◌, ◌-◌, ◌*◌, ◌≤◌, arith, le_of_suc-le-suc, not-suc-le-zero, Bool, false, List, ◌∷◌, ◌++◌, append_assoc, ◌≡◌, refl, ap, length, take, drop, replicate, length-append, length-take, take-append-drop, take-append-le, take_at, drop_at}
+use Rattle.ground.proofs.Names.{ℕ, zero, suc, ◌-◌, ◌*◌, ◌≤◌, arith, le_of_suc-le-suc, not-suc-le-zero, Bool, false, List, ◌∷◌, ◌++◌, append_assoc, ◌≡◌, refl, ap, length, take, drop, replicate, length-append, length-take, take-append-drop, take-append-le, take_at, drop_at}
 use Rattle.refusals.specs.Refusals.{bytes_for}
 use Rattle.wire.specs.Bits.{unpack}
 use Rattle.wire.specs.Wire.{string, wire, answer, shifted}

@@ -14,7 +14,7 @@ fn window(b0: u8, b1: u8, b2: u8, off: u32) -> u16
     requires { off ≤ 8 }
     ensures { result ≡ value (take 16 (drop off (bits 8 b0 ++ bits 8 b1 ++ bits 8 b2))) }
 {
-    let v = (b0 as u32) * 65536 + (b1 as u32) * 256 + (b2 as u32);
+    let v = u32::from_be_bytes([0, b0, b1, b2]);
     ((v >> (8 - off)) % 65536) as u16
 }
 
@@ -32,7 +32,7 @@ fn kept(b: u8, m: usize) -> u8
 fn byte_or_zero(bytes: &[u8], k: usize) -> u8
     ensures { result ≡ get_or bytes.now k 0 }
 {
-    if k < bytes.len() { bytes[k] } else { 0 }
+    bytes.get(k).copied().unwrap_or(0)
 }
 
 // The 16 bits of a row of bytes from a bit on. The third byte that they may reach is 0 past the row's end.
@@ -45,15 +45,14 @@ fn word_from(bytes: &[u8], bit: usize) -> u16
     window(bytes[q], bytes[q + 1], b2, (bit % 8) as u32)
 }
 
-// Writes the n words of a row of bytes from a bit on, the last of them first.
-fn write_words(bytes: &[u8], bit: usize, n: usize, next: &mut [u16])
-    requires { (n ≤ 16) × (bit ≤ 4096) × (bit + 16 * n ≤ 8 * length bytes.now) × (n ≤ length next.old) }
-    ensures { next.new ≡ words n (drop bit (unpack bytes.now)) ++ drop n next.old }
+// Fills a row of words from a row of bytes, from a bit on, the last word first.
+fn write_words(bytes: &[u8], bit: usize, next: &mut [u16])
+    requires { (length next.old ≤ 16) × (bit ≤ 4096) × (bit + 16 * length next.old ≤ 8 * length bytes.now) }
+    ensures { next.new ≡ words (length next.old) (drop bit (unpack bytes.now)) }
 {
-    let mut i = 0;
-    while i < n {
+    let n = next.len();
+    for i in 0..n {
         next[i] = word_from(bytes, bit + 16 * (n - 1 - i));
-        i += 1;
     }
 }
 
@@ -65,12 +64,11 @@ pub fn write_bytes(words: &[u16], room: &mut [u8])
     if room.len() / 2 < n {
         return;
     }
-    let mut j = 0;
-    while j < n {
+    for j in 0..n {
         let w = words[n - 1 - j];
-        room[2 * j] = (w / 256) as u8;
-        room[2 * j + 1] = (w % 256) as u8;
-        j += 1;
+        let [high, low] = w.to_be_bytes();
+        room[2 * j] = high;
+        room[2 * j + 1] = low;
     }
 }
 
@@ -79,11 +77,7 @@ fn copy_bytes(from: &[u8], n: usize, to: &mut [u8], at: usize)
     requires { (n ≤ length from.now) × (at + n ≤ length to.old) }
     ensures { to.new ≡ take at to.old ++ take n from.now ++ drop (at + n) to.old }
 {
-    let mut k = 0;
-    while k < n {
-        to[at + k] = from[k];
-        k += 1;
-    }
+    to[at..at + n].copy_from_slice(&from[..n]);
 }
 
 // Clears the spare bits of the last byte, where the clocks end inside it.
@@ -99,49 +93,48 @@ fn clear_spare(clocks: usize, room: &mut [u8])
 }
 
 // An access of at least 16 clocks for each driver: the old words are answered whole, and the new words are bits that were sent.
-fn shift_whole(words: &mut [u16], n: usize, clocks: usize, sent: &[u8], room: &mut [u8])
-    requires { (n ≤ 16) × (n ≤ length words.old) × (16 * n ≤ clocks) × (bytes_for clocks ≤ length sent.now) × (bytes_for clocks ≤ length room.old) × (clocks ≤ 4096) }
-    ensures { (words.new ≡ shifted (take n words.old) sent.now clocks ++ drop n words.old) × (room.new ≡ answer (take n words.old) sent.now clocks ++ drop (bytes_for clocks) room.old) }
+fn shift_whole(words: &mut [u16], clocks: usize, sent: &[u8], room: &mut [u8])
+    requires { (length words.old ≤ 16) × (16 * length words.old ≤ clocks) × (bytes_for clocks ≤ length sent.now) × (bytes_for clocks ≤ length room.old) × (clocks ≤ 4096) }
+    ensures { (words.new ≡ shifted words.old sent.now clocks) × (room.new ≡ answer words.old sent.now clocks ++ drop (bytes_for clocks) room.old) }
 {
+    let n = words.len();
     let count = (clocks + 7) / 8;
-    write_bytes(&words[..n], room);
+    write_bytes(words, room);
     copy_bytes(sent, count - 2 * n, room, 2 * n);
     clear_spare(clocks, room);
-    write_words(sent, clocks - 16 * n, n, words);
+    write_words(sent, clocks - 16 * n, words);
 }
 
 // An access of fewer clocks: all its bits stand in one line, the old words' bytes and after them the sent bytes.
-fn shift_part(words: &mut [u16], n: usize, clocks: usize, sent: &[u8], room: &mut [u8])
-    requires { (n ≤ 16) × (n ≤ length words.old) × (clocks < 16 * n) × (bytes_for clocks ≤ length sent.now) × (bytes_for clocks ≤ length room.old) }
-    ensures { (words.new ≡ shifted (take n words.old) sent.now clocks ++ drop n words.old) × (room.new ≡ answer (take n words.old) sent.now clocks ++ drop (bytes_for clocks) room.old) }
+fn shift_part(words: &mut [u16], clocks: usize, sent: &[u8], room: &mut [u8])
+    requires { (length words.old ≤ 16) × (clocks < 16 * length words.old) × (bytes_for clocks ≤ length sent.now) × (bytes_for clocks ≤ length room.old) }
+    ensures { (words.new ≡ shifted words.old sent.now clocks) × (room.new ≡ answer words.old sent.now clocks ++ drop (bytes_for clocks) room.old) }
 {
     let count = (clocks + 7) / 8;
     let mut line = [0; 64];
-    write_bytes(&words[..n], &mut line);
-    copy_bytes(sent, count, &mut line, 2 * n);
+    write_bytes(words, &mut line);
+    copy_bytes(sent, count, &mut line, 2 * words.len());
     copy_bytes(&line, count, room, 0);
     clear_spare(clocks, room);
-    write_words(&line, clocks, n, words);
+    write_words(&line, clocks, words);
 }
 
-// An access on the first n of the words lent, n at most sixteen: its answer goes to the room, and the words after it take their place. Nothing
-// changes where the words are too few or the clocks or the bytes don't fit.
-pub fn shift(words: &mut [u16], n: usize, clocks: usize, sent: &[u8], room: &mut [u8])
-    ensures { (words.new ≡ words_after words.old n clocks sent.now room.old) × (room.new ≡ room_after words.old n clocks sent.now room.old) }
+// An access on the words lent, sixteen at most: its answer goes to the room, and the words after it take their place. Nothing
+// changes where there are more words or the clocks or the bytes don't fit.
+pub fn shift(words: &mut [u16], clocks: usize, sent: &[u8], room: &mut [u8])
+    ensures { (words.new ≡ words_after words.old (length words.old) clocks sent.now room.old) × (room.new ≡ room_after words.old (length words.old) clocks sent.now room.old) }
 {
-    if 16 < n {
+    let drivers = words.len();
+    if 16 < drivers {
         return;
     }
-    if words.len() < n {
+    if refusals::size_refusal(clocks, sent.len(), room.len()).is_err() {
         return;
     }
-    if refusals::size_refusal(clocks, sent.len(), room.len()) != 0 {
-        return;
-    }
-    if 16 * n <= clocks {
-        shift_whole(words, n, clocks, sent, room);
+    if 16 * drivers <= clocks {
+        shift_whole(words, clocks, sent, room);
     } else {
-        shift_part(words, n, clocks, sent, room);
+        shift_part(words, clocks, sent, room);
     }
 }
 

@@ -1,12 +1,13 @@
 -- `chain::max6954_plane` meets its contract. Assumes nothing.
-use Rattle.ground.proofs.Names.{ap, sym, ◌∙◌}
+use Rattle.ground.proofs.Names.{refl, ap, sym, ◌∙◌}
+use Rattle.refusals.proofs.RefusalLaws.{row_number}
 use Rattle.calls.specs.Calls.{plane}
 use Rattle.calls.specs.Outcome.{Outcome}
 use Rattle.shapes.proofs.Asks.{asked, unasked}
 use Rattle.chain.proofs.max6954_plane.Goals as goal
 
-pub returns-then-number-ne0 : goal.returns-then-number-ne0
-returns-then-number-ne0 c = ap (λ (o : Outcome). o.back) (unasked c.args.chain.now c.args.driver (plane c.args.p0.now c.args.p1.now c.args.first c.args.last) c.plane_refusal-own.ensures c.call_refusal-number.ensures c.if-number-ne0.true) ∙ sym c.plane_refused.ensures
+pub returns-in-Err : goal.returns-in-Err
+returns-in-Err c = ap (λ (o : Outcome). o.back) (unasked c.args.chain.now c.args.driver (plane c.args.p0.now c.args.p1.now c.args.first c.args.last) c.plane_refusal-asked.ensures c.in-Err.ensures (row_number _)) ∙ sym c.plane_refused.ensures
 
-pub returns : goal.returns
-returns c = ap (λ (o : Outcome). o.back) (asked c.args.chain.now c.args.driver (plane c.args.p0.now c.args.p1.now c.args.first c.args.last) c.plane_refusal-own.ensures c.call_refusal-number.ensures _ c.if-number-ne0.false) ∙ sym c.plane.ensures
+pub returns-in-Ok : goal.returns-in-Ok
+returns-in-Ok c = ap (λ (o : Outcome). o.back) (asked c.args.chain.now c.args.driver (plane c.args.p0.now c.args.p1.now c.args.first c.args.last) c.plane_refusal-asked.ensures c.in-Ok.ensures _ refl) ∙ sym c.plane.ensures

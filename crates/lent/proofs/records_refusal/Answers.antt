@@ -1,21 +1,21 @@
 -- `lent::records_refusal` meets its contract. Assumes nothing.
-use Rattle.ground.proofs.Names.{◌≡◌, ◌-◌, arith, refl, ◌∙◌, length}
+use Rattle.ground.proofs.Names.{◌≡◌, arith, ◌∙◌, length}
+use Rattle.pass.specs.Own.{own_of}
 use Rattle.pass.proofs.WidthLaws.{all_start}
 use Rattle.pass.proofs.SeenLaws.{seen_start}
 use Rattle.pass.proofs.FoundLaws.{records_found}
 use Rattle.lent.proofs.Passed.{seen_turn}
 use Rattle.lent.proofs.records_refusal.Goals as goal
 
-pub loop-i-init : goal.loop-i-init
-loop-i-init c = (omega arith, refl, c.new-s.ensures ∙ seen_start c.args.chain.now, all_start c.args.chain.now)
+pub loop-d-init : goal.loop-d-init
+loop-d-init c = (c.new-seen.ensures ∙ seen_start c.args.chain.now, all_start c.args.chain.now)
 
-pub loop-i-preserved : goal.loop-i-preserved
-loop-i-preserved c =
-    let t = seen_turn c.args.chain.now c.loop-i.i _ c.loop-i-test.true c.loop-i.invariant.2 c.loop-i.invariant.3 c.with-s.ensures.seen c.with-s.ensures.bytes in
-    (omega arith, refl, t.0, t.1)
+pub loop-d-preserved : goal.loop-d-preserved
+loop-d-preserved c =
+    seen_turn c.args.chain.now c.loop-d.d-index _ (omega arith) c.loop-d.invariant.0 c.loop-d.invariant.1 c.with-seen.ensures.seen c.with-seen.ensures.bytes
 
 pub returns : goal.returns
 returns c =
     let xs = c.args.chain.now in
-    let e : c.loop-i.i ≡ length xs = omega arith in
-    c.found_by.ensures ∙ rw (c.loop-i.invariant.2, e) (records_found xs c.args.family c.args.own (rw e at c.loop-i.invariant.3))
+    let e : c.loop-d.d-index ≡ length xs = omega arith in
+    c.found_by.ensures ∙ rw (c.loop-d.invariant.0, e) (records_found xs c.args.family (own_of c.args.asked) (rw e at c.loop-d.invariant.1))

@@ -3,14 +3,18 @@ use Rattle.ground.proofs.Names.{◌-◌, ◌*◌, arith, ◌≡◌, refl, ◌∙
 use Rattle.wire.proofs.LineLaws.{bytes_none, bytes_more}
 use Rattle.wire.proofs.write_bytes.Goals as goal
 
-pub overflow_cast-room : goal.overflow_cast-room
-overflow_cast-room c = let ws = c.args.words.now in omega (arith, c.shared_slice_known-1.given (length ws - 1 - c.loop-j.j))
+pub loop-j-init : goal.loop-j-init
+loop-j-init c = (omega arith, refl, bytes_none c.args.words.now _)
 
 pub loop-j-preserved : goal.loop-j-preserved
 loop-j-preserved c =
     let a = c.args in
     let l = c.loop-j in
-    (omega arith, simp length-set l.invariant.1, rw l.invariant.2 (bytes_more a.words.now a.room.now l.j (omega arith) (omega arith)))
+    let fits = c.type_inv.words (length a.words.now - 1 - l.j) in (
+      omega arith,
+      simp length-set l.invariant.1,
+      rw (l.invariant.2, c.to_be_bytes.ensures) (bytes_more a.words.now a.room.now l.j _ _ (omega arith) (omega arith) (omega arith) refl),
+    )
 
 pub returns : goal.returns
 returns c =
@@ -22,9 +26,3 @@ returns c =
 
 pub returns-then-room-n : goal.returns-then-room-n
 returns-then-room-n c = let a = c.args in rw (lt-ltb (length a.room.now) (2 * length a.words.now) (omega arith))
-
-pub loop-j-init : goal.loop-j-init
-loop-j-init c = (omega arith, refl, bytes_none c.args.words.now _)
-
-pub bounds-room-j-in-loop-j : goal.bounds-room-j-in-loop-j
-bounds-room-j-in-loop-j c = simp length-set (omega arith)

@@ -6,6 +6,3 @@ use Rattle.wire.proofs.write_bytes.Given as goal
 abbrev pub invariant-loop-j : goal.invariant-loop-j
 invariant-loop-j l =
     (l.j ≤ l.n) × (length l.room ≡ length l.initial.room) × (l.room ≡ word_bytes (drop (l.n - l.j) l.words) ++ drop (2 * l.j) l.initial.room)
-
-abbrev pub decreases-loop-j : goal.decreases-loop-j
-decreases-loop-j l = l.n - l.j

@@ -5,6 +5,3 @@ use Rattle.wire.proofs.write_words.Given as goal
 
 abbrev pub invariant-loop-i : goal.invariant-loop-i
 invariant-loop-i l = Filled l.n (λ j. word_at (drop l.bit (unpack l.bytes)) (l.n - 1 - j)) l.initial.next l.next l.i
-
-abbrev pub decreases-loop-i : goal.decreases-loop-i
-decreases-loop-i l = l.n - l.i

@@ -6,7 +6,7 @@ use Rattle.row.proofs.Typed.{default}
 use Rattle.row.proofs.Row.seen.Goals as goal
 
 pub loop-i-init : goal.loop-i-init
-loop-i-init c = (omega arith, c.new-w.ensures ∙ seen_start c.args.self.devices)
+loop-i-init c = c.new-w.ensures ∙ seen_start c.args.self.devices
 
 pub loop-i-preserved : goal.loop-i-preserved
 loop-i-preserved c =
@@ -14,4 +14,4 @@ loop-i-preserved c =
     let ds = c.args.self.devices in
     let sized : length ds ≡ 16 = search rules in
     let h : l.i < length ds = omega arith in
-    (omega arith, rw (c.with-w.ensures.seen, l.invariant.1, default _ power_up ds l.i h) (seen_more ds l.i h))
+    rw (c.with-w.ensures.seen, l.invariant, default _ power_up ds l.i h) (seen_more ds l.i h)

@@ -26,6 +26,7 @@ new_byte row w old = if (eqb (w / 4096) row || eqb (w / 4096) 6) (w % 256) old
 abbrev pub new_p0 : ℕ → ℕ → ℕ
 new_p0 = new_byte 2
 
+-- and in plane P1
 abbrev pub new_p1 : ℕ → ℕ → ℕ
 new_p1 = new_byte 4
 

@@ -9,7 +9,7 @@ ghost use Rattle.calls.specs.Calls.{scan, levels as pin_levels, clocks as master
 ghost use Rattle.pass.specs.Widths.{Bytes, no_widths, widths_with, fit, all_old};
 ghost use Rattle.pass.specs.Own.{argument_at, lack_at, row_lack_at, row_own, step_own, question_own, own_of};
 ghost use Rattle.pass.specs.Seen.{no_seen, seen_with, seen_fit};
-ghost use Rattle.pass.specs.Found.{by_arguments, access_by_arguments, to_pass, in_room, found, found_old, found_by};
+ghost use Rattle.pass.specs.Found.{by_arguments, access_by_arguments, in_room, found, found_old, found_by};
 
 use device::Device;
 use refusals::Refusal;
@@ -296,13 +296,6 @@ pub fn access_by_arguments(n: usize, clocks: usize, sent: usize, room: usize) ->
 {
     chain_refusal(n)?;
     refusals::size_refusal(clocks, sent, room)
-}
-
-// How many records are passed over: none where the number is known.
-pub fn to_pass(first: u8, n: usize) -> usize
-    ensures { result ≡ to_pass first n }
-{
-    if first == 0 { n } else { 0 }
 }
 
 // How many of n records have one of w words: all or none.

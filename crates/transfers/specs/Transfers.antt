@@ -69,11 +69,12 @@ read_free early n b σ = if (eqb (refusal_from early n b σ) 0) (byte_answer b n
 abbrev pub read_open : Device → Bus → ByteAnswer
 read_open d b = byte_answer b (asked_reply (use_at b.phase) d)
 
--- to a byte given or asked for: by no record, and of the part whose transfer is open
+-- to a byte given or asked for, by no record
 abbrev pub byte_free : ℕ → ℕ → Bus → List ℕ → Byte → ByteAnswer
 byte_free early n b σ (Given v) = write_free early n b σ v
 byte_free early n b σ Asked = read_free early n b σ
 
+-- and of the part whose transfer is open
 abbrev pub byte_open : Byte → Device → Bus → ByteAnswer
 byte_open (Given v) d b = put_answer 0 v b
 byte_open Asked d b = read_open d b

@@ -35,6 +35,7 @@ pub fn each_refusal(chain: &[Device], driver: usize, asked: Asked) -> Result<(),
 }
 
 // The same, with a pass that is faster where all drivers are of the old family.
+#[inline(always)]
 pub fn call_refusal(chain: &[Device], driver: usize, asked: Asked) -> Result<(), Refusal>
     ensures { number_of result ≡ call_refusal chain.now driver (own_of asked) }
 {

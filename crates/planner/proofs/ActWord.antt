@@ -16,7 +16,7 @@ use Rattle.plans.specs.Act.{acted, act_of, stay, clear}
 use Rattle.plans.proofs.Act.{config_word}
 
 -- the planes after a word, where a redraw may give it
-abbrev pub by_word : Config → Planes → Word → Option Planes
+abbrev pub by_word : Config → Planes → Word Register → Option Planes
 by_word c p (Read r) = None
 by_word c p (Write NoOp v) = if (eqb v 0) (Some p) None
 by_word c p (Write (Control k) v) = None

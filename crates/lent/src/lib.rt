@@ -34,7 +34,7 @@ pub fn each_refusal(chain: &[Device], driver: usize, asked: Asked) -> Result<(),
     records_refusal(chain, family, asked)
 }
 
-// The same, with a pass that is faster where all drivers are of the old family.
+// The same, with a pass that is faster where all drivers are of the old family. Inlined, since out of line it takes longer.
 #[inline(always)]
 pub fn call_refusal(chain: &[Device], driver: usize, asked: Asked) -> Result<(), Refusal>
     ensures { number_of result ≡ call_refusal chain.now driver (own_of asked) }

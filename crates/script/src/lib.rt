@@ -105,7 +105,7 @@ fn run_records(records: &[u8], n: usize, table: &[u16], out: &mut [u8], first: u
     if rest.is_empty() {
         return at;
     }
-    refusal_line(8, out, at)
+    refusal_line(u8::from(Refusal::Record), out, at)
 }
 
 // What a script that isn't too long prints.
@@ -116,7 +116,7 @@ fn print(script: &[u8], out: &mut [u8]) -> usize
     let first = start_of(script);
     let n = first.n;
     if n == 0 || 16 < n {
-        return refusal_line(1, out, 0);
+        return refusal_line(u8::from(Refusal::Chain), out, 0);
     }
     let at = chain_line(n, out, 0);
     run_records(&script[first.from..], n, &test_table(), out, at)
@@ -138,7 +138,7 @@ pub fn run(script: &[u8], out: &mut [u8]) -> Result<usize, Refusal>
         return Err(Refusal::Room);
     }
     if LONGEST < script.len() {
-        return Ok(refusal_line(9, out, 0));
+        return Ok(refusal_line(u8::from(Refusal::Script), out, 0));
     }
     Ok(print(script, out))
 }

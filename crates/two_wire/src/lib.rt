@@ -12,7 +12,7 @@ use bus::{Bus, State};
 use device::Device;
 use transfers::{BusAnswer, Byte, ByteAnswer, Call, Straps};
 
-// What a start, a byte and a stop find on these parts. Made in place it costs a byte less time.
+// What a start, a byte and a stop find on these parts. Inlined, so that a call takes less time.
 #[inline(always)]
 fn found(parts: &[Device], bus: Bus, straps: Straps) -> Call
     ensures records { number_of result.early ≡ row_refusal parts.now }

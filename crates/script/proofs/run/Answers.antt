@@ -7,7 +7,7 @@ pub returns-then-script-gt-LONGEST : goal.returns-then-script-gt-LONGEST
 returns-then-script-gt-LONGEST c =
     let a = c.args in
     let r = c.room_for.ensures in
-    let v = c.refusal_line.ensures in
+    let v = rw c.from.ensures at c.refusal_line.ensures in
     let long = c.if-script-gt-LONGEST.true in
     ran a.script.now a.out.now _ _ (rw (← r) c.if-out-room_for.false) (rw (printed_long a.script.now long) v) (omega (arith, v.place, rw (lt-ltb _ _ long) at r, c.if-out-room_for.false))
 

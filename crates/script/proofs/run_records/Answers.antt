@@ -13,4 +13,4 @@ pub returns-then-is_empty : goal.returns-then-is_empty
 returns-then-is_empty c = run_ends c.loop-record.invariant (search rules)
 
 pub returns : goal.returns
-returns c = stops c.loop-record.invariant c.in_default.ensures.stop (search rules) c.refusal_line.ensures
+returns c = stops c.loop-record.invariant c.in_default.ensures.stop (search rules) (rw c.from.ensures at c.refusal_line.ensures)

@@ -6,4 +6,4 @@ use Rattle.chain.proofs.max6954_add_clocks.Goals as goal
 
 pub returns : goal.returns
 returns c =
-    rw c.number.ensures (gave c.args.chain.now c.args.driver (clocks c.args.clocks) c.clocks_refusal-asked.ensures c.given.ensures.number (λ z. search rules) c.given.ensures.refused)
+    simp (c.number.ensures) (gave c.args.chain.now c.args.driver (clocks c.args.clocks) c.clocks_refusal-asked.ensures c.given.ensures.number (λ z. search rules) c.given.ensures.refused)

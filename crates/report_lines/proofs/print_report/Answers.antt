@@ -20,5 +20,5 @@ returns-in-Ok c =
     let a = c.args in
     let h : 8 * c.in-Ok.drivers ≤ length c.run.new.totals = search rules in
     let e = report_served a.script.now (replicate 128 0) c.run.new.totals _ refl c.in-Ok.ensures.answer c.run.ensures.totals refl in
-    let f = whole a.script.now a.out.now _ _ (rw e (rw (first_lines (8 * c.in-Ok.drivers) c.run.new.totals h) at c.total_lines.ensures.lines)) c.total_lines.ensures.short in
+    let f = whole a.script.now a.out.now _ _ (rw e (simp (← first_lines (8 * c.in-Ok.drivers) c.run.new.totals h) c.total_lines.ensures.lines)) c.total_lines.ensures.short in
     record { count = f.0; lines = f.1 }

@@ -39,7 +39,9 @@ fn hex_bytes(bytes: &[u8], out: &mut [u8], at: usize) -> usize
 {
     let mut place = at;
     for b in bytes {
-        place = put(&[hex_digit(b / 16), hex_digit(b % 16)], out, place);
+        out[place] = hex_digit(b / 16);
+        out[place + 1] = hex_digit(b % 16);
+        place += 2;
     }
     place
 }

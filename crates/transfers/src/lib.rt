@@ -95,6 +95,7 @@ fn unless_lacked(early: Result<(), Refusal>) -> Result<(), Refusal>
     }
 }
 
+// What the calls on the bus use of it is inlined, so that none of them hands it on through memory.
 impl Call {
     // The parts' addresses: the first n, or all.
     fn addresses(&self) -> &[u8]
@@ -104,6 +105,7 @@ impl Call {
     }
 
     // Why it is refused.
+    #[inline(always)]
     #[tactic(auto, using(crate::proofs::StrapLaws::by_records, crate::proofs::StrapLaws::by_tests))]
     pub fn refusal(&self) -> Result<(), Refusal>
         ensures { number_of result ≡ refusal_from (number_of self.now.early) self.now.n self.now.bus self.now.straps.addresses }
@@ -123,6 +125,7 @@ impl Call {
     }
 
     // The answer to a start or a stop; left is the state that it leaves where it is served.
+    #[inline(always)]
     #[tactic(auto, using(refusals::proofs::RefusalLaws::row_number))]
     pub fn moved(&self, left: State) -> BusAnswer
         ensures { result ≡ moved (refusal_from (number_of self.now.early) self.now.n self.now.bus self.now.straps.addresses) self.now.bus (bus_of left) }
@@ -140,6 +143,7 @@ impl Call {
     }
 
     // The part whose open transfer a byte reaches; none where it is refused or none is open.
+    #[inline(always)]
     #[tactic(auto, using(refusals::proofs::RefusalLaws::row_number))]
     pub fn part_open(&self) -> Option<usize>
         ensures { result ≡ named (part_open (number_of self.now.early) self.now.n self.now.bus self.now.straps.addresses) }
@@ -151,6 +155,7 @@ impl Call {
     }
 
     // The answer to a byte that no record decides.
+    #[inline(always)]
     #[tactic(auto, using(crate::proofs::StrapLaws::place_found, refusals::proofs::RefusalLaws::row_number))]
     pub fn byte_free(&self, byte: Byte) -> ByteAnswer
         ensures { result ≡ byte_free (number_of self.now.early) self.now.n self.now.bus self.now.straps.addresses byte }
@@ -217,7 +222,8 @@ fn put_answer(at: Option<usize>, byte: u8, bus: Bus) -> ByteAnswer
     ByteAnswer::served(Bus::from(state), reply)
 }
 
-// The answer to a byte in the open transfer of a part.
+// The answer to a byte in the open transfer of a part. Inlined, so that a call takes less time; so is what it leaves.
+#[inline(always)]
 pub fn byte_open(d: &Device, bus: Bus, byte: Byte) -> ByteAnswer
     ensures { result ≡ byte_open byte d.now bus }
 {
@@ -229,6 +235,7 @@ pub fn byte_open(d: &Device, bus: Bus, byte: Byte) -> ByteAnswer
 }
 
 // What it leaves of that part's record.
+#[inline(always)]
 pub fn byte_left(d: &mut Device, bus: Bus, byte: Byte)
     ensures { d.new ≡ byte_left byte (use_at bus.phase) d.old }
 {

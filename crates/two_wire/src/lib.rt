@@ -44,7 +44,8 @@ pub fn max6955_stop(parts: &[Device], bus: Bus, straps: Straps) -> BusAnswer
     found(parts, bus, straps).moved(State::Idle)
 }
 
-// A byte, given or asked for.
+// A byte, given or asked for. Inlined, so that its answer is made where the caller has it.
+#[inline(always)]
 #[tactic(auto, using(transfers::proofs::BusLaws::free_outcome, shapes::proofs::Bytes::part_outcome))]
 fn transfer(parts: &mut [Device], bus: Bus, straps: Straps, byte: Byte) -> ByteAnswer
     ensures { bus_outcome straps.addresses (byte_call byte) bus parts.old ≡ record { number = result.number; bus = result.bus; records = parts.new; back = result.acknowledged ∷ result.«data» ∷ [] } }

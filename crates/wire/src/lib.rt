@@ -77,7 +77,10 @@ fn copy_bytes(from: &[u8], n: usize, to: &mut [u8], at: usize)
     requires { (n ≤ length from.now) × (at + n ≤ length to.old) }
     ensures { to.new ≡ take at to.old ++ take n from.now ++ drop (at + n) to.old }
 {
-    to[at..at + n].copy_from_slice(&from[..n]);
+    // By bytes: for the library's copy a C program would have to bring a memmove.
+    for k in 0..n {
+        to[at + k] = from[k];
+    }
 }
 
 // Clears the spare bits of the last byte, where the clocks end inside it.

@@ -1,12 +1,12 @@
 // The look back by value: the last word that stops, found by two masks, and the byte that it leaves.
 #![tactic(auto)]
 
-ghost use Rattle.std.specs.Prelude.{◌≡◌, ◌<◌, ltb, reverse, Some, None};
-ghost use Rattle.std.specs.List.{find};
+ghost use Rattle.std.specs.Prelude.{◌≡◌, ◌<◌, ltb, length, Some, None, IfSome};
 ghost use Rattle.ground.specs.Choice.{if};
 ghost use Rattle.look_back.specs.LookBack.{plane_numbered, byte_after, look_back_answer};
+ghost use Rattle.look_back.specs.Stops.{last_place};
 ghost use Rattle.look_back.specs.ByteBy.{left_by};
-ghost use Rattle.stopping_word.specs.Masks.{mask_of, pattern_of, stops_under};
+ghost use Rattle.stopping_word.specs.Masks.{mask_of, pattern_of, stops_under, counted};
 
 use device::Device;
 use look_back::LookBackAnswer;
@@ -42,15 +42,17 @@ fn stops(word: u16, mask: u16, pattern: u16) -> bool
     (word & mask == pattern) | (word & 0xFF20 == 0x0420)
 }
 
-// The last word that stops. No word before it is read.
-fn stopping_word(words: &[u16], mask: u16, pattern: u16) -> Option<u16>
-    ensures { result ≡ find (stops_under mask pattern) (reverse words.now) }
+// The place of the last word that stops. No word before it is read. A `for` is faster than `rposition`.
+fn stopping_place(words: &[u16], mask: u16, pattern: u16) -> Option<usize>
+    ensures place { counted result ≡ last_place (stops_under mask pattern) words.now }
+    ensures within { IfSome result (λ k. k < length words.now) }
 {
-    words
-        .iter()
-        .rev()
-        .copied()
-        .find(|&word| stops(word, mask, pattern))
+    for k in (0..words.len()).rev() {
+        if stops(words[k], mask, pattern) {
+            return Some(k);
+        }
+    }
+    None
 }
 
 // The byte that a word that stops leaves: 0 by a clear, else its data.
@@ -69,8 +71,8 @@ fn looked(device: Device, plane: Plane, digit: u8, words: &[u16]) -> u8
     requires { digit < 16 }
     ensures { result ≡ byte_after device plane digit words.now }
 {
-    match stopping_word(words, mask(plane), pattern(plane, digit)) {
-        Some(word) => left_by(word),
+    match stopping_place(words, mask(plane), pattern(plane, digit)) {
+        Some(k) => left_by(words[k]),
         None => device.registers.planes.digit(plane, digit),
     }
 }

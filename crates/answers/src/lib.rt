@@ -3,7 +3,6 @@
 
 ghost use Rattle.std.specs.Prelude.{◌≡◌, [], replicate};
 ghost use Rattle.ground.specs.Lists.{tabulate};
-ghost use Rattle.refusals.specs.Numbers.{number_by};
 ghost use Rattle.device.specs.Steps.{shown_plane};
 ghost use Rattle.device.specs.Families.{interrupt_of};
 ghost use Rattle.port_states.specs.PortStates.{states_of};
@@ -15,7 +14,6 @@ use brightness::BrightnessAnswer;
 use device::Device;
 use display::SegmentAnswer;
 use look_back::LookBackAnswer;
-use refusals::Refusal;
 use words::Plane;
 
 // An answer: its number, and the plane shown, 0 for P0 and 1 for P1.
@@ -51,11 +49,11 @@ pub struct PortAnswer {
 }
 
 // No port is driven.
-pub fn ports_refused(refusal: Refusal) -> PortAnswer
-    ensures { result ≡ record { number = number_by refusal; ports = replicate 28 0 } }
+pub fn ports_refused(number: u8) -> PortAnswer
+    ensures { result ≡ record { number = number; ports = replicate 28 0 } }
 {
     PortAnswer {
-        number: u8::from(refusal),
+        number: number,
         ports: [0; 28],
     }
 }
@@ -72,20 +70,20 @@ pub fn ports(d: Device) -> PortAnswer
 }
 
 // No pin is driven.
-pub fn segments_refused(refusal: Refusal) -> SegmentAnswer
-    ensures { result ≡ record { number = number_by refusal; pins = tabulate 19 (λ p. pin_code NotDriven) } }
+pub fn segments_refused(number: u8) -> SegmentAnswer
+    ensures { result ≡ record { number = number; pins = tabulate 19 (λ p. pin_code NotDriven) } }
 {
     SegmentAnswer {
-        number: u8::from(refusal),
+        number: number,
         pins: [0; 19],
     }
 }
 
-pub fn brightness_refused(refusal: Refusal) -> BrightnessAnswer
-    ensures { result ≡ record { number = number_by refusal; sixteenths = 0; ruler = 0 } }
+pub fn brightness_refused(number: u8) -> BrightnessAnswer
+    ensures { result ≡ record { number = number; sixteenths = 0; ruler = 0 } }
 {
     BrightnessAnswer {
-        number: u8::from(refusal),
+        number: number,
         sixteenths: 0,
         ruler: 0,
     }
@@ -101,11 +99,11 @@ fn plane_code(plane: Plane) -> u8
     }
 }
 
-pub fn shown_refused(refusal: Refusal) -> ShownAnswer
-    ensures { result ≡ record { number = number_by refusal; plane = 0 } }
+pub fn shown_refused(number: u8) -> ShownAnswer
+    ensures { result ≡ record { number = number; plane = 0 } }
 {
     ShownAnswer {
-        number: u8::from(refusal),
+        number: number,
         plane: 0,
     }
 }
@@ -120,11 +118,11 @@ pub fn shown(d: Device) -> ShownAnswer
     }
 }
 
-pub fn interrupt_refused(refusal: Refusal) -> InterruptAnswer
-    ensures { result ≡ record { number = number_by refusal; raised = 0 } }
+pub fn interrupt_refused(number: u8) -> InterruptAnswer
+    ensures { result ≡ record { number = number; raised = 0 } }
 {
     InterruptAnswer {
-        number: u8::from(refusal),
+        number: number,
         raised: 0,
     }
 }
@@ -139,11 +137,11 @@ pub fn interrupt(d: Device) -> InterruptAnswer
     }
 }
 
-pub fn mark_refused(refusal: Refusal) -> MarkAnswer
-    ensures { result ≡ record { number = number_by refusal; mark = 0 } }
+pub fn mark_refused(number: u8) -> MarkAnswer
+    ensures { result ≡ record { number = number; mark = 0 } }
 {
     MarkAnswer {
-        number: u8::from(refusal),
+        number: number,
         mark: 0,
     }
 }
@@ -158,11 +156,11 @@ pub fn mark(d: Device) -> MarkAnswer
     }
 }
 
-pub fn look_back_refused(refusal: Refusal) -> LookBackAnswer
-    ensures { result ≡ record { number = number_by refusal; byte = 0 } }
+pub fn look_back_refused(number: u8) -> LookBackAnswer
+    ensures { result ≡ record { number = number; byte = 0 } }
 {
     LookBackAnswer {
-        number: u8::from(refusal),
+        number: number,
         byte: 0,
     }
 }
@@ -175,10 +173,10 @@ pub fn plane_refused<'a>(p0: &'a [u8]) -> &'a [u8]
 }
 
 // Which of two lent planes a part is of.
-pub fn plane_shown_refused(refusal: Refusal) -> ShownAnswer
-    ensures { result ≡ record { number = number_by refusal; plane = 0 } }
+pub fn plane_shown_refused(number: u8) -> ShownAnswer
+    ensures { result ≡ record { number = number; plane = 0 } }
 {
-    shown_refused(refusal)
+    shown_refused(number)
 }
 
 pub fn plane_shown(d: Device) -> ShownAnswer

@@ -149,7 +149,7 @@ pub fn max6954_plane_shown(
     let asked = pass::plane_refusal(p0, p1, first, last);
     match lent::call_refusal(chain, driver, asked) {
         Ok(()) => answers::plane_shown(chain[driver - 1]),
-        Err(refusal) => answers::plane_shown_refused(refusal),
+        Err(refusal) => answers::plane_shown_refused(u8::from(refusal)),
     }
 }
 
@@ -166,7 +166,7 @@ pub fn max6954_segments(
     let asked = pass::segments_refusal(cathode, font14, font16);
     match lent::call_refusal(chain, driver, asked) {
         Ok(()) => shown_pins::segments(chain[driver - 1], cathode, font14, font16),
-        Err(refusal) => answers::segments_refused(refusal),
+        Err(refusal) => answers::segments_refused(u8::from(refusal)),
     }
 }
 
@@ -177,7 +177,7 @@ pub fn max6954_brightness(chain: &[Device], driver: usize, digit: usize) -> Brig
     let asked = pass::brightness_refusal(digit);
     match lent::call_refusal(chain, driver, asked) {
         Ok(()) => brightness::brightness(chain[driver - 1], digit),
-        Err(refusal) => answers::brightness_refused(refusal),
+        Err(refusal) => answers::brightness_refused(u8::from(refusal)),
     }
 }
 
@@ -188,7 +188,7 @@ pub fn max6954_shown(chain: &[Device], driver: usize) -> ShownAnswer
     let asked = pass::shown_refusal();
     match lent::call_refusal(chain, driver, asked) {
         Ok(()) => answers::shown(chain[driver - 1]),
-        Err(refusal) => answers::shown_refused(refusal),
+        Err(refusal) => answers::shown_refused(u8::from(refusal)),
     }
 }
 
@@ -199,7 +199,7 @@ pub fn max6954_interrupt(chain: &[Device], driver: usize) -> InterruptAnswer
     let asked = pass::interrupt_refusal();
     match lent::call_refusal(chain, driver, asked) {
         Ok(()) => answers::interrupt(chain[driver - 1]),
-        Err(refusal) => answers::interrupt_refused(refusal),
+        Err(refusal) => answers::interrupt_refused(u8::from(refusal)),
     }
 }
 
@@ -210,7 +210,7 @@ pub fn max6954_answer_mark(chain: &[Device], driver: usize) -> MarkAnswer
     let asked = pass::mark_refusal();
     match lent::call_refusal(chain, driver, asked) {
         Ok(()) => answers::mark(chain[driver - 1]),
-        Err(refusal) => answers::mark_refused(refusal),
+        Err(refusal) => answers::mark_refused(u8::from(refusal)),
     }
 }
 
@@ -221,7 +221,7 @@ pub fn max6957_ports(chain: &[Device], driver: usize) -> PortAnswer
     let asked = pass::ports_refusal();
     match lent::each_refusal(chain, driver, asked) {
         Ok(()) => answers::ports(chain[driver - 1]),
-        Err(refusal) => answers::ports_refused(refusal),
+        Err(refusal) => answers::ports_refused(u8::from(refusal)),
     }
 }
 
@@ -238,7 +238,7 @@ pub fn max6954_look_back(
     let asked = pass::look_back_refusal(plane, digit, words);
     match lent::call_refusal(chain, driver, asked) {
         Ok(()) => stopping_word::look_back(chain[driver - 1], plane, digit, words),
-        Err(refusal) => answers::look_back_refused(refusal),
+        Err(refusal) => answers::look_back_refused(u8::from(refusal)),
     }
 }
 

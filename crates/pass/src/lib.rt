@@ -7,6 +7,7 @@ ghost use Rattle.refusals.specs.Numbers.{number_of};
 ghost use Rattle.refusals.specs.Refusals.{chain_refusal, driver_refusal, sound_refusal, family_refusal};
 ghost use Rattle.calls.specs.Calls.{scan, levels as pin_levels, clocks as master_clocks, plane, segments, brightness, shown, interrupt, answer_mark, look_back, ports};
 ghost use Rattle.pass.specs.Widths.{Bytes, no_widths, widths_with, fit, all_old};
+ghost use Rattle.pass.specs.declared.Asked.TheVariants.{Any};
 ghost use Rattle.pass.specs.Own.{argument_at, lack_at, row_lack_at, row_own, step_own, question_own, own_of};
 ghost use Rattle.pass.specs.Seen.{no_seen, seen_with, seen_fit};
 ghost use Rattle.pass.specs.Found.{by_arguments, access_by_arguments, in_room, found, found_old, found_by};
@@ -384,14 +385,16 @@ pub fn shown_refusal() -> Asked
 
 // The interrupt: every driver may.
 pub fn interrupt_refusal() -> Asked
-    ensures { own_of result ≡ question_own interrupt }
+    ensures own { own_of result ≡ question_own interrupt }
+    ensures interrupt { result ≡ Any }
 {
     Asked::Any
 }
 
 // And the answer mark.
 pub fn mark_refusal() -> Asked
-    ensures { own_of result ≡ question_own answer_mark }
+    ensures own { own_of result ≡ question_own answer_mark }
+    ensures mark { result ≡ Any }
 {
     Asked::Any
 }

@@ -6,7 +6,7 @@ use Rattle.shapes.proofs.Asks.{asked, unasked, question_there}
 use Rattle.chain.proofs.max6954_look_back.Goals as goal
 
 pub returns-in-Err : goal.returns-in-Err
-returns-in-Err c = rw c.look_back_refused.ensures (unasked c.args.chain.now c.args.driver (look_back c.args.plane c.args.digit c.args.words.now) c.look_back_refusal-asked.ensures c.in-Err.ensures (row_number _))
+returns-in-Err c = rw (rw c.from.ensures at c.look_back_refused.ensures) (unasked c.args.chain.now c.args.driver (look_back c.args.plane c.args.digit c.args.words.now) c.look_back_refusal-asked.ensures c.in-Err.ensures (row_number _))
 
 pub returns-in-Ok : goal.returns-in-Ok
 returns-in-Ok c = rw (c.look_back.ensures, question_there c.args.chain.now c.args.driver (look_back c.args.plane c.args.digit c.args.words.now) c.look_back_refusal-asked.ensures c.in-Ok.ensures refl) (asked c.args.chain.now c.args.driver (look_back c.args.plane c.args.digit c.args.words.now) c.look_back_refusal-asked.ensures c.in-Ok.ensures _ refl)

@@ -7,7 +7,7 @@ ghost use Rattle.refusals.specs.Numbers.{number_of};
 ghost use Rattle.refusals.specs.Refusals.{chain_refusal, driver_refusal, sound_refusal, family_refusal};
 ghost use Rattle.calls.specs.Calls.{scan, levels as pin_levels, clocks as master_clocks, plane, segments, brightness, shown, interrupt, answer_mark, look_back, ports};
 ghost use Rattle.pass.specs.Widths.{Bytes, no_widths, widths_with, fit, all_old};
-ghost use Rattle.pass.specs.declared.Asked.TheVariants.{Any};
+ghost use Rattle.pass.specs.declared.Asked.TheVariants.{Levels, Any};
 ghost use Rattle.pass.specs.Own.{argument_at, lack_at, row_lack_at, row_own, step_own, question_own, own_of};
 ghost use Rattle.pass.specs.Seen.{no_seen, seen_with, seen_fit};
 ghost use Rattle.pass.specs.Found.{by_arguments, access_by_arguments, in_room, found, found_old, found_by};
@@ -343,7 +343,8 @@ pub fn scan_refusal(a: u8, b: u8, c: u8, d: u8) -> Asked
 
 // Pin levels: 6 above 31, or of a MAX6957 above 28 bits.
 pub fn levels_refusal(levels: u32) -> Asked
-    ensures { own_of result ≡ step_own (pin_levels levels) }
+    ensures own { own_of result ≡ step_own (pin_levels levels) }
+    ensures levels { result ≡ Levels levels }
 {
     Asked::Levels(levels)
 }

@@ -20,5 +20,5 @@ returns-in-Ok c =
     let sixteen : length ws ≡ 16 = search rules in
     let h : n.result ≤ length ws = omega (arith, n.ensures, sixteen) in
     let number : 0 ≡ number_on a.self (access a.clocks a.sent.now a.room.now) = c.in-Ok.ensures ∙ access_found a.self _ refl a.clocks a.sent.now a.room.now _ refl in
-    rw (c.all_taken.ensures, c.shift.ensures.0, c.shift.ensures.1, front_words ws n.result a.clocks a.sent.now a.room.now h, front_room ws n.result a.clocks a.sent.now a.room.now h, c.shift_words-words.ensures, n.ensures.0)
+    rw (c.all_taken.ensures, c.shift.ensures.0, c.shift.ensures.1 ∙ front_room ws n.result a.clocks a.sent.now a.room.now h, front_words ws n.result a.clocks a.sent.now a.room.now h, c.shift_words-words.ensures, n.ensures.0)
     (access_done a.self a.clocks a.sent.now a.room.now _ number refl)
